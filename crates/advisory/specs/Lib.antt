@@ -1,0 +1,5 @@
+pub mod Sign
+pub mod Catalogue
+pub mod ReactionTable
+pub mod Advised
+pub mod Table1

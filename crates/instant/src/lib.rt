@@ -1,0 +1,97 @@
+// Rational times: their order, and their lowest terms.
+
+ghost use mathlib.Core.Path.{_≡_};
+ghost use Prim.Native.Nat.{min};
+ghost use lib.Count.{trailingZeros};
+ghost use Rattle.instant.specs.Order.{Sized, noLater, sameInstant, earlier};
+ghost use Rattle.instant.specs.Lowest.{gcd, lowest};
+
+// The rational time n/m, in seconds; a time has m ≥ 1.
+pub struct Instant {
+    pub n: u64,
+    pub m: u64,
+}
+
+// An instant, or none.
+pub enum Moment {
+    At(Instant),
+    Never,
+}
+
+// A time as it is shown: whole seconds, and remainder/divisor of a second in lowest terms.
+pub struct Time {
+    pub seconds: u64,
+    pub remainder: u64,
+    pub divisor: u64,
+}
+
+// Is a no later than b?
+pub fn no_later(a: Instant, b: Instant) -> bool
+    requires { ⌜ Sized a × Sized b ⌝ }
+    ensures { λ r. ⌜ r ≡ noLater a b ⌝ }
+{
+    a.n * b.m <= b.n * a.m
+}
+
+// Are a and b the same rational time?
+pub fn same_instant(a: Instant, b: Instant) -> bool
+    requires { ⌜ Sized a × Sized b ⌝ }
+    ensures { λ r. ⌜ r ≡ sameInstant a b ⌝ }
+{
+    a.n * b.m == b.n * a.m
+}
+
+// The earlier of a and b; a where they are the same rational time.
+pub fn earlier(a: Instant, b: Instant) -> Instant
+    requires { ⌜ Sized a × Sized b ⌝ }
+    ensures { λ r. ⌜ r ≡ earlier a b ⌝ }
+{
+    if no_later(a, b) { a } else { b }
+}
+
+// The greatest common divisor, by Euclid's algorithm.
+fn gcd(a: u64, b: u64) -> u64
+    ensures { λ r. ⌜ r ≡ gcd a b ⌝ }
+{
+    let mut x = a;
+    let mut y = b;
+    while y != 0 {
+        let rest = x % y;
+        x = y;
+        y = rest;
+    }
+    x
+}
+
+// How many factors of two a and b share; a 0 counts as 64 of them.
+fn shared_twos(a: u64, b: u64) -> u32
+    ensures { λ r. ⌜ r ≡ min (trailingZeros 64 a) (trailingZeros 64 b) ⌝ }
+{
+    let in_a = u64::trailing_zeros(a);
+    let in_b = u64::trailing_zeros(b);
+    if in_a < in_b { in_a } else { in_b }
+}
+
+// The time n/m in lowest terms; three zeros, which are no time, where m is 0.
+// Shared factors of two are shifted out; Euclid's algorithm finds what else is shared.
+pub fn lowest_terms(n: u64, m: u64) -> Time
+    ensures { λ r. ⌜ r ≡ lowest n m ⌝ }
+{
+    if m == 0 {
+        return Time {
+            seconds: 0,
+            remainder: 0,
+            divisor: 0,
+        };
+    }
+    let left = n % m;
+    let twos = shared_twos(left, m);
+    let numerator = left >> twos;
+    let denominator = m >> twos;
+    let common = gcd(denominator, numerator);
+    Time {
+        seconds: n / m,
+        remainder: numerator / common,
+        divisor: denominator / common,
+    }
+}
