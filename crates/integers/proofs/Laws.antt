@@ -77,6 +77,13 @@ module _ {a b x y : ℤ} (k : ℤ) (p : pos 0 <ℤ k) (e : y -ℤ x ≡ k *ℤ (
       (λ (l : b ≤ℤ a). absurd (<ℤ-irrefl {a = pos 0} (by< [] (a ∷ b ∷ x ∷ y ∷ k ∷ []) (gap< p ⊠ gap≤ l ⊞ gap≤ l ⊞ gap< h ⊞ gap≤ (≤ℤ-of-≡ e)) (λ v. search quote depth 20) tt)))
       (split< a b)
 
+-- ---- two tests that follow from each other are one
+pub same-test : (a b : Bool) → (T a → T b) → (T b → T a) → a ≡ b
+same-test true true f g = refl
+same-test true false f g = absurd (f tt)
+same-test false true f g = absurd (g tt)
+same-test false false f g = refl
+
 -- ---- the larger of 0 and a number
 pub max0-ge : (z : ℤ) → z ≤ℤ pos (max0 z)
 max0-ge (pos n) = pos≤ (omega arith)

@@ -1,0 +1,208 @@
+-- The bounds of a question's, a rule's and an instant's numbers, as rules for `search`. Assumes nothing.
+use mathlib.Core.Path.{_≡_, sym, _∙_, subst}
+use mathlib.Core.List.{[], _∷_}
+use Prim.Native.Nat.{ℕ, _+_, _*_, _<_, _≤_}
+use native.Mathlib.Nat.{mul-le-mul}
+use native.Mathlib.Omega.{arith}
+use lib.Dec.{T, lit≤}
+use lib.IntN.{ℤ, pos, negsuc, _-ℤ_, natAbs}
+use lib.Signed.{_≤ℤ_, leZ}
+use mir.Syntax.{w64}
+use mir.Val.{SFits, toZ, ofZ}
+use mir.Facts.{toZ-ofZ}
+use Rattle.integers.specs.Extremes.{max0, maxℤ}
+use Rattle.integers.proofs.Difference.{negPart, cond-by}
+use Rattle.integers.proofs.Quotation.{quote}
+use Rattle.integers.proofs.Certificates.{by≤, 0≤pos}
+use Rattle.integers.proofs.Laws.{max0-le, natAbs-in}
+use Rattle.integers.proofs.Machine.{Reading, bounded, bounded-natural, bounded-word, bounded-absolute, unbounded, equal-to, plain-terms}
+use Rattle.path.specs.declared.SensedQuestion.{SensedQuestion}
+use Rattle.path.specs.declared.Side.{Side}
+use Rattle.path.specs.declared.Side.the-variants.{Lower, Upper}
+use Rattle.path.specs.Letters.{r, c, k, wh, u, q, d, e, upper-q}
+use Rattle.path.specs.Paths.{delayHeight, u-d, upperTarget}
+use Rattle.path.specs.Window.{distanceAt}
+use Rattle.path.specs.Sizes.{Sizes, Sized, farthest, InReach}
+use Rattle.conflict.specs.declared.AdviceRule.{AdviceRule}
+use Rattle.conflict.specs.Divided.{ruleOf, missing}
+use Rattle.conflict.specs.RuleSizes.{RuleSizes, mostMissing, mostBend}
+
+-- ---- a call's result, which fits and equals t; no bound is known
+abbrev pub read-call : {x t : ℤ} → SFits w64 x → x ≡ t → Reading (toZ w64 (ofZ w64 x))
+read-call {x} {t} f h = equal-to (toZ-ofZ f ∙ h) (unbounded t)
+
+-- ---- an instant; one of the lower side is one of the upper
+module _ (side : Side) (n m : ℕ) (h : InReach side n m) where
+  abbrev pub read-n : Reading (toZ w64 n)
+  read-n = bounded-word n (farthest side) (h .n-hi)
+
+  abbrev pub read-m : Reading (toZ w64 m)
+  read-m = bounded-word m 150000 (h .m-hi)
+
+lower-in-upper : {n m : ℕ} → InReach Lower n m → InReach Upper n m
+lower-in-upper h = record { n-hi = omega (arith, h .n-hi); m-lo = h .m-lo; m-hi = h .m-hi }
+
+pub upper-reach : (side : Side) {n m : ℕ} → InReach side n m → InReach Upper n m
+upper-reach Lower h = lower-in-upper h
+upper-reach Upper h = h
+
+pub side-reach : (side : Side) {n m : ℕ} → InReach Lower n m → InReach side n m
+side-reach Lower h = h
+side-reach Upper h = lower-in-upper h
+
+-- ---- a question
+pub sizes : (side : Side) {s : SensedQuestion} → Sized side s → Sizes s
+sizes Lower z = z
+sizes Upper z = z .0
+
+module _ (s : SensedQuestion) (z : Sizes s) where
+  abbrev pub read-distance : Reading (s .distance)
+  read-distance = bounded (r s) 12000000 (z .r-lo) (z .r-hi)
+
+  abbrev pub read-closing-speed : Reading (toZ w64 (s .«closing_speed»))
+  read-closing-speed = bounded-word (c s) 150000 (z .c-hi)
+
+  abbrev pub read-half-height : Reading (toZ w64 (s .«half_height»))
+  read-half-height = bounded-word (k s) 12000 (z .k-hi)
+
+  abbrev pub read-level : Reading (s .level)
+  read-level = bounded (wh s) 480000 (z .wh-lo) (z .wh-hi)
+
+  abbrev pub read-speed : Reading (s .speed)
+  read-speed = bounded (u s) 20000 (z .u-lo) (z .u-hi)
+
+  abbrev pub read-target : Reading (s .target)
+  read-target = bounded (q s) 20000 (z .q-lo) (z .q-hi)
+
+  abbrev pub read-delay : Reading (toZ w64 (s .delay))
+  read-delay = bounded-word (d s) 60 (z .d-hi)
+
+  abbrev pub read-delay-acceleration : Reading (toZ w64 (s .«delay_acceleration»))
+  read-delay-acceleration = bounded-word (e s) 2000 (z .e-hi)
+
+-- ---- a rule
+module _ (rule : AdviceRule) (z : RuleSizes rule) where
+  abbrev pub read-rule-strength : Reading (toZ w64 (rule .strength))
+  read-rule-strength = bounded-word (rule .strength) 2000 (z .strength-hi)
+
+  abbrev pub read-rule-target : Reading (rule .target)
+  read-rule-target = bounded-absolute (rule .target) 20000 (z .target-hi)
+
+  abbrev pub read-rule-speed : Reading (rule .speed)
+  read-rule-speed = bounded-absolute (rule .speed) 140000 (z .speed-hi)
+
+  abbrev pub read-rule-edge : Reading (rule .edge)
+  read-rule-edge = bounded-absolute (rule .edge) 11000000 (z .edge-hi)
+
+-- a rule is its four numbers
+pub same-rule : (a : ℕ) {q q′ x x′ i i′ : ℤ} → q ≡ q′ → x ≡ x′ → i ≡ i′ → _≡_ {A = AdviceRule} (record { strength = a; target = q; speed = x; edge = i }) (record { strength = a; target = q′; speed = x′; edge = i′ })
+same-rule a f g h = cc
+
+-- `search numbers` finds the reading of a machine term, where the sizes of its question or rule and the reach of its instant are in scope
+pub ruleset numbers = (
+  plain-terms,
+  read-n,
+  read-m,
+  read-distance,
+  read-closing-speed,
+  read-half-height,
+  read-level,
+  read-speed,
+  read-target,
+  read-delay,
+  read-delay-acceleration,
+  read-rule-strength,
+  read-rule-target,
+  read-rule-speed,
+  read-rule-edge,
+)
+
+-- ---- the size of a term is within the bound of its reading
+number-size : (z : ℤ) (B : ℕ) → max0 z + negPart z ≤ B → natAbs z ≤ B
+number-size (pos n) B h = omega arith
+number-size (negsuc n) B h = omega arith
+
+pub size : (t : ℤ) (x : Reading t) → T (x .guard) → natAbs t ≤ x .bound
+size t x g = subst (λ (z : ℤ). natAbs z ≤ x .bound) (sym (x .is g)) (number-size (x .number) (x .bound) (x .small g))
+
+max0-size : (z : ℤ) → max0 z ≤ natAbs z
+max0-size (pos n) = omega arith
+max0-size (negsuc n) = omega arith
+
+pub distance-size : (s : SensedQuestion) (n m : ℕ) → Sizes s → InReach Lower n m → natAbs (distanceAt s n m) ≤ 3609000000000
+distance-size s n m z h =
+    let closing-speed = bounded-natural (c s) 150000 (z .c-hi) in
+    let time = bounded-natural n 12060000 (h .n-hi) in
+    let divisor = bounded-natural m 150000 (h .m-hi) in
+    size (distanceAt s n m) (search numbers depth 20) tt
+
+-- ---- the parts of a rule
+module _ (s : SensedQuestion) (z : Sizes s) where
+  pub after-delay-size : natAbs (u-d s) ≤ 140000
+  after-delay-size =
+      let acceleration = bounded-natural (e s) 2000 (z .e-hi) in
+      let delay = bounded-natural (d s) 60 (z .d-hi) in
+      size (u-d s) (search numbers depth 20) tt
+
+  pub start-size : natAbs (delayHeight (e s) (u s) (d s) 1) ≤ 9600000
+  unfolding delayHeight
+  start-size =
+      let acceleration = bounded-natural (e s) 2000 (z .e-hi) in
+      let delay = bounded-natural (d s) 60 (z .d-hi) in
+      size (delayHeight (e s) (u s) (d s) 1) (search numbers depth 20) tt
+
+  lower-edge-size : natAbs (ruleOf Lower s .edge) ≤ 10584000
+  lower-edge-size =
+      let half-height = bounded-natural (k s) 12000 (z .k-hi) in
+      let start = bounded-absolute (delayHeight (e s) (u s) (d s) 1) 9600000 start-size in
+      size (ruleOf Lower s .edge) (search numbers depth 20) tt
+
+  upper-edge-size : natAbs (ruleOf Upper s .edge) ≤ 984000
+  upper-edge-size =
+      let half-height = bounded-natural (k s) 12000 (z .k-hi) in
+      size (ruleOf Upper s .edge) (search numbers depth 20) tt
+
+pub upper-target-size : (s : SensedQuestion) → Sized Upper s → natAbs (upperTarget s) ≤ 20000
+upper-target-size s z =
+    cond-by (leZ (upper-q s) (u s)) (u s) (upper-q s) (λ x. natAbs x ≤ 20000)
+    (λ t. natAbs-in (u s) 20000 (z .0 .u-lo) (z .0 .u-hi))
+    (λ t. natAbs-in (upper-q s) 20000 (z .1 .upper-q-lo) (z .1 .upper-q-hi))
+
+pub rule-sizes : (side : Side) (s : SensedQuestion) → Sized side s → RuleSizes (ruleOf side s)
+rule-sizes Lower s z = record {
+  strength-lo = z .a-lo;
+  strength-hi = z .a-hi;
+  target-hi = natAbs-in (q s) 20000 (z .q-lo) (z .q-hi);
+  speed-hi = after-delay-size s z;
+  edge-hi = omega (arith, lower-edge-size s z);
+}
+rule-sizes Upper s z = record {
+  strength-lo = z .1 .b-lo;
+  strength-hi = z .1 .b-hi;
+  target-hi = upper-target-size s z;
+  speed-hi = omega (arith, natAbs-in (u s) 20000 (z .0 .u-lo) (z .0 .u-hi));
+  edge-hi = omega (arith, upper-edge-size s (z .0));
+}
+
+-- ---- the missing speed
+pub missing-size : (rule : AdviceRule) → RuleSizes rule → missing rule ≤ 160000
+missing-size rule z = omega (arith, max0-size (rule .target -ℤ rule .speed), size (rule .target -ℤ rule .speed) (search numbers depth 20) tt)
+
+upper-missing : (x y : ℤ) → (x -ℤ y) ≤ℤ pos 20000 → max0 (maxℤ x y -ℤ y) ≤ 20000
+upper-missing x y h =
+    max0-le (maxℤ x y -ℤ y) 20000
+    (cond-by (leZ x y) y x (λ z. (z -ℤ y) ≤ℤ pos 20000) (λ t. by≤ [] (y ∷ []) (0≤pos 0) (λ v. search quote depth 20) tt) (λ t. h))
+
+pub missing-most : (side : Side) (s : SensedQuestion) → Sized side s → missing (ruleOf side s) ≤ mostMissing side
+missing-most Lower s z = missing-size (ruleOf Lower s) (rule-sizes Lower s z)
+missing-most Upper s z = upper-missing (upper-q s) (u s) (z .1 .change)
+
+-- ---- an arc: its strength times n is below the missing speed times m
+most-bend : (side : Side) → mostMissing side * 150000 * farthest side ≤ mostBend
+most-bend Lower = lit≤ tt
+most-bend Upper = lit≤ tt
+
+pub bend-size : (side : Side) (g i n m : ℕ) → g ≤ mostMissing side → InReach side n m → i < g * m → i * n ≤ mostBend
+bend-size side g i n m z h l =
+    let x : i ≤ mostMissing side * 150000 = omega (arith, mul-le-mul z (h .m-hi)) in
+    omega (arith, mul-le-mul x (h .n-hi), most-bend side)

@@ -1,0 +1,2 @@
+pub mod Divided
+pub mod RuleSizes

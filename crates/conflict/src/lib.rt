@@ -1,0 +1,282 @@
+// Whether an instant n/m is in the window, and in conflict on a side: exact 64-bit code for the tests of `path`.
+//
+// `path` compares heights times 2·a·m², up to 4.4e19, which 64 bits don't hold. So each comparison here has a factor that its two sides share divided out:
+// an arc stands times 2·m², a straight times 2·a·m. Locals bear document 01's letters (`path`, specs/Letters.antt).
+
+ghost use mathlib.Core.Path.{_≡_};
+ghost use Prim.Native.Nat.{_*_, _<_, _≤_, _^_};
+ghost use lib.IntN.{natAbs};
+ghost use Rattle.integers.specs.Extremes.{max0};
+ghost use Rattle.path.specs.declared.Side.the-variants.{Lower, Upper};
+ghost use Rattle.path.specs.Letters.{u, e};
+ghost use Rattle.path.specs.Paths.{delayHeight, u-d, upperTarget};
+ghost use Rattle.path.specs.Window.{distanceAt, inWindow};
+ghost use Rattle.path.specs.Conflict.{notBeyond, inConflict};
+ghost use Rattle.path.specs.Sizes.{Sizes, Sized, InReach};
+ghost use Rattle.conflict.specs.Divided.{delayNotBeyond, ruleOf, ruleNotBeyond, missing, arcNotBeyond, straightNotBeyond};
+ghost use Rattle.conflict.specs.RuleSizes.{RuleSizes, mostMissing, mostBend};
+use path::Limit;
+use path::SensedQuestion;
+use path::Side;
+
+// max(0, x)
+pub fn positive_part(x: i64) -> u64
+    ensures { λ r. ⌜ r ≡ max0 x ⌝ }
+{
+    if x < 0 {
+        return 0;
+    }
+    x as u64
+}
+
+// |x|
+fn absolute(x: i64) -> u64
+    requires { ⌜ natAbs x < 2 ^ 63 ⌝ }
+    ensures { λ r. ⌜ r ≡ natAbs x ⌝ }
+{
+    if x < 0 {
+        return (-x) as u64;
+    }
+    x as u64
+}
+
+// The speed u_d at the delay's end.
+pub fn speed_after_delay(s: SensedQuestion) -> i64
+    requires { ⌜ Sizes s ⌝ }
+    ensures { λ r. ⌜ r ≡ u-d s ⌝ }
+{
+    let u = s.speed;
+    let e = s.delay_acceleration as i64;
+    let d = s.delay as i64;
+    u - e * d
+}
+
+// The upper rule's target: an ownship that is faster already keeps its speed.
+pub fn upper_target(s: SensedQuestion) -> i64
+    requires { ⌜ Sized Upper s ⌝ }
+    ensures { λ r. ⌜ r ≡ upperTarget s ⌝ }
+{
+    let target = s.upper_target;
+    let u = s.speed;
+    if target <= u {
+        return u;
+    }
+    target
+}
+
+// The height during the delay, times 2·m². At d/1 it is twice the height f_d, and whole: halving e·d² could lose half a grain.
+fn delay_height(s: SensedQuestion, n: u64, m: u64) -> i64
+    requires { ⌜ Sizes s ⌝ }
+    requires { ⌜ InReach Lower n m ⌝ }
+    ensures { λ r. ⌜ r ≡ delayHeight (e s) (u s) n m ⌝ }
+{
+    let u = s.speed;
+    let e = s.delay_acceleration as i64;
+    let n = n as i64;
+    let m = m as i64;
+    2 * u * n * m - e * n * n
+}
+
+// The delay against the lower edge, w·h + k.
+fn delay_not_beyond(s: SensedQuestion, n: u64, m: u64) -> bool
+    requires { ⌜ Sizes s ⌝ }
+    requires { ⌜ InReach Lower n m ⌝ }
+    ensures { λ r. ⌜ r ≡ delayNotBeyond s n m ⌝ }
+{
+    let height = delay_height(s, n, m);
+    let level = s.level;
+    let k = s.half_height as i64;
+    let m = m as i64;
+    height <= 2 * m * m * (level + k)
+}
+
+// An advice rule from any height and speed on, so that one comparison serves both sides.
+struct AdviceRule {
+    strength: u64,
+    target: i64,
+    // The speed where the rule begins.
+    speed: i64,
+    // Twice the height of the puck's edge above the height where the rule begins.
+    edge: i64,
+}
+
+// From the delay's end on, against w·h + k.
+fn lower_rule(s: SensedQuestion) -> AdviceRule
+    requires { ⌜ Sizes s ⌝ }
+    ensures { λ r. ⌜ r ≡ ruleOf Lower s ⌝ }
+{
+    let u_d = speed_after_delay(s);
+    let start = delay_height(s, s.delay, 1);
+    let level = s.level;
+    let k = s.half_height as i64;
+    AdviceRule {
+        strength: s.strength,
+        target: s.target,
+        speed: u_d,
+        edge: 2 * (level + k) - start,
+    }
+}
+
+// From 0 on, against w·h − k.
+fn upper_rule(s: SensedQuestion) -> AdviceRule
+    requires { ⌜ Sized Upper s ⌝ }
+    ensures { λ r. ⌜ r ≡ ruleOf Upper s ⌝ }
+{
+    let target = upper_target(s);
+    let level = s.level;
+    let k = s.half_height as i64;
+    AdviceRule {
+        strength: s.upper_strength,
+        target: target,
+        speed: s.speed,
+        edge: 2 * (level - k),
+    }
+}
+
+// G, the speed that is missing; none where the speed exceeds the target, as the path then takes the target at once.
+fn missing_speed(rule: AdviceRule) -> u64
+    requires { ⌜ RuleSizes rule ⌝ }
+    ensures { λ r. ⌜ r ≡ missing rule ⌝ }
+{
+    let target = rule.target;
+    let speed = rule.speed;
+    positive_part(target - speed)
+}
+
+// While the speed still changes: a·n is below G·m then, which keeps a·n² small. (The instants of both sides are in the upper one's reach.)
+fn arc_not_beyond(side: Side, rule: AdviceRule, n: u64, m: u64) -> bool
+    requires { ⌜ RuleSizes rule ⌝ }
+    requires { ⌜ InReach Upper n m ⌝ }
+    requires { ⌜ rule .strength * n * n ≤ mostBend ⌝ }
+    ensures { λ r. ⌜ r ≡ arcNotBeyond side rule n m ⌝ }
+{
+    let a = rule.strength;
+    let u = rule.speed;
+    let edge = rule.edge;
+    let bend = (a * n * n) as i64;
+    let n = n as i64;
+    let m = m as i64;
+    let arc = 2 * u * n * m + bend;
+    let edge = m * m * edge;
+    match side {
+        Side::Lower => arc <= edge,
+        Side::Upper => edge <= arc,
+    }
+}
+
+// Once the speed is the target.
+fn straight_not_beyond(side: Side, rule: AdviceRule, gap: u64, n: u64, m: u64) -> bool
+    requires { ⌜ RuleSizes rule ⌝ }
+    requires { ⌜ InReach Upper n m ⌝ }
+    requires { ⌜ gap ≡ missing rule ⌝ }
+    ensures { λ r. ⌜ r ≡ straightNotBeyond side rule n m ⌝ }
+{
+    let q = rule.target;
+    let edge = rule.edge;
+    let a = rule.strength as i64;
+    let g = gap as i64;
+    let n = n as i64;
+    let m = m as i64;
+    let straight = 2 * a * q * n - g * g * m;
+    let edge = a * m * edge;
+    match side {
+        Side::Lower => straight <= edge,
+        Side::Upper => edge <= straight,
+    }
+}
+
+// The rule n/m after it begins.
+fn rule_not_beyond(side: Side, rule: AdviceRule, n: u64, m: u64) -> bool
+    requires { ⌜ RuleSizes rule ⌝ }
+    requires { ⌜ missing rule ≤ mostMissing side ⌝ }
+    requires { ⌜ InReach side n m ⌝ }
+    ensures { λ r. ⌜ r ≡ ruleNotBeyond side rule n m ⌝ }
+{
+    let gap = missing_speed(rule);
+    let a = rule.strength;
+    if a * n < gap * m {
+        return arc_not_beyond(side, rule, n, m);
+    }
+    straight_not_beyond(side, rule, gap, n, m)
+}
+
+// f against w·h + k.
+fn lower_not_beyond(s: SensedQuestion, n: u64, m: u64) -> bool
+    requires { ⌜ Sizes s ⌝ }
+    requires { ⌜ InReach Lower n m ⌝ }
+    ensures { λ r. ⌜ r ≡ notBeyond Lower s n m ⌝ }
+{
+    let d = s.delay;
+    let end = d * m;
+    if n <= end {
+        return delay_not_beyond(s, n, m);
+    }
+    let rule = lower_rule(s);
+    rule_not_beyond(Side::Lower, rule, n - end, m)
+}
+
+// j against w·h − k.
+fn upper_not_beyond(s: SensedQuestion, n: u64, m: u64) -> bool
+    requires { ⌜ Sized Upper s ⌝ }
+    requires { ⌜ InReach Upper n m ⌝ }
+    ensures { λ r. ⌜ r ≡ notBeyond Upper s n m ⌝ }
+{
+    let rule = upper_rule(s);
+    rule_not_beyond(Side::Upper, rule, n, m)
+}
+
+// Is a side's path "not strictly beyond" the puck's edge at n/m?
+pub fn not_beyond(side: Side, s: SensedQuestion, n: u64, m: u64) -> bool
+    requires { ⌜ Sized side s ⌝ }
+    requires { ⌜ InReach side n m ⌝ }
+    ensures { λ r. ⌜ r ≡ notBeyond side s n m ⌝ }
+{
+    match side {
+        Side::Lower => lower_not_beyond(s, n, m),
+        Side::Upper => upper_not_beyond(s, n, m),
+    }
+}
+
+// r − c·t, times m.
+fn distance_at(s: SensedQuestion, n: u64, m: u64) -> i64
+    requires { ⌜ Sizes s ⌝ }
+    requires { ⌜ InReach Lower n m ⌝ }
+    ensures { λ r. ⌜ r ≡ distanceAt s n m ⌝ }
+{
+    let r = s.distance;
+    let c = s.closing_speed as i64;
+    let n = n as i64;
+    let m = m as i64;
+    r * m - c * n
+}
+
+// Is n/m in the window? Its edges count, and so does the limit itself.
+pub fn in_window(s: SensedQuestion, n: u64, m: u64) -> bool
+    requires { ⌜ Sizes s ⌝ }
+    requires { ⌜ InReach Lower n m ⌝ }
+    ensures { λ r. ⌜ r ≡ inWindow s n m ⌝ }
+{
+    let ahead = distance_at(s, n, m);
+    let apart = absolute(ahead);
+    let p = s.radius;
+    if p * m < apart {
+        return false;
+    }
+    let limit = s.limit;
+    match limit {
+        Limit::Unlimited => true,
+        Limit::Upto(last) => n <= last * m,
+    }
+}
+
+// Is n/m in conflict on a side?
+pub fn in_conflict(side: Side, s: SensedQuestion, n: u64, m: u64) -> bool
+    requires { ⌜ Sized side s ⌝ }
+    requires { ⌜ InReach Lower n m ⌝ }
+    ensures { λ r. ⌜ r ≡ inConflict side s n m ⌝ }
+{
+    if in_window(s, n, m) {
+        return not_beyond(side, s, n, m);
+    }
+    false
+}

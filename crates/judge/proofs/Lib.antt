@@ -1,0 +1,8 @@
+pub mod Branches
+pub mod SensedOrder
+pub mod ExamplesHold
+pub mod AcceptedSizes
+pub mod PlainFields
+pub mod AnswerRecords
+pub mod Demand3
+pub mod Mirror

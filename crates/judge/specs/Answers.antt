@@ -1,0 +1,49 @@
+-- The answer to a question of plain numbers, and document 01's number and values for each answer ("Answer records").
+use mathlib.Core.List.{List, [], _∷_, _++_}
+use Prim.Native.Nat.{ℕ}
+use Rattle.instant.specs.declared.Time.{Time}
+use Rattle.judge.specs.declared.Encounter.{Encounter}
+use Rattle.judge.specs.declared.Settings.{Settings}
+use Rattle.judge.specs.declared.Question.{Question}
+use Rattle.judge.specs.declared.Checked.{Checked}
+use Rattle.judge.specs.declared.ClearSides.{ClearSides}
+use Rattle.judge.specs.declared.Verdict.{Verdict}
+use Rattle.judge.specs.declared.Verdict.the-variants.{Clear, Conflict, Conflicts}
+use Rattle.judge.specs.declared.Answer.{Answer}
+use Rattle.judge.specs.Refusals.{refusal}
+use Rattle.judge.specs.Sensed.{sensedQuestion}
+use Rattle.judge.specs.Verdicts.{verdict}
+
+-- refused, or else judged
+abbrev pub checkedAnswer : Checked → Verdict → Answer
+checkedAnswer Checked.Accepted v = Answer.Judged v
+checkedAnswer (Checked.Refused n) v = Answer.Refused n
+
+unfoldable pub answer : Encounter → Settings → Question → Answer
+unfolding refusal sensedQuestion verdict
+answer x y z = checkedAnswer (refusal x y z) (verdict z (sensedQuestion x y z))
+
+-- an answer record: its kind, and the numbers of its body
+pub record AnswerRecord : Type 0 where
+  pub kind : ℕ
+  pub values : List ℕ
+
+abbrev pub answers : ℕ → List ℕ → AnswerRecord
+answers kind values = record { kind = kind; values = values }
+
+-- "1 lower side clear, 2 upper, 3 both"
+abbrev pub sidesNumber : ClearSides → ℕ
+sidesNumber ClearSides.Lower = 1
+sidesNumber ClearSides.Upper = 2
+sidesNumber ClearSides.Both = 3
+
+-- "whole seconds, remainder, divisor"
+abbrev pub timeNumbers : Time → List ℕ
+timeNumbers t = t .seconds ∷ t .remainder ∷ t .divisor ∷ []
+
+-- "Kind 65 clear, body 1 byte; kind 66 one-sided conflict; kind 67 two such times, lower first; kind 68 one byte, the refusal number."
+abbrev pub answerRecord : Answer → AnswerRecord
+answerRecord (Answer.Judged (Clear sides)) = answers 65 (sidesNumber sides ∷ [])
+answerRecord (Answer.Judged (Conflict t)) = answers 66 (timeNumbers t)
+answerRecord (Answer.Judged (Conflicts t u)) = answers 67 (timeNumbers t ++ timeNumbers u)
+answerRecord (Answer.Refused n) = answers 68 (n ∷ [])

@@ -1,0 +1,39 @@
+-- A question by code: "coded question: code, limit; one-sided, delay from the table". Codes 9 and 10 take the ownship's v as target.
+use Prim.Native.Nat.{ℕ}
+use lib.IntN.{ℤ, pos}
+use Rattle.advisory.specs.declared.Sense.{Sense}
+use Rattle.advisory.specs.declared.Sense.the-variants.{Climb, Descend}
+use Rattle.advisory.specs.declared.Instruction.{Instruction}
+use Rattle.advisory.specs.declared.Advised.{Advised}
+use Rattle.advisory.specs.Catalogue.{rateOf}
+use Rattle.advisory.specs.Advised.{advisedOf}
+use Rattle.judge.specs.declared.Question.{Question}
+use Rattle.judge.specs.declared.CodedQuestion.{CodedQuestion}
+
+-- "Sense 0 descend or 1 climb"
+abbrev pub senseNumber : Sense → ℤ
+senseNumber Descend = pos 0
+senseNumber Climb = pos 1
+
+-- an instruction as a one-sided free question, for an ownship of speed v
+abbrev pub instructed : Instruction → ℤ → ℤ → Question
+instructed i v limit = record {
+  sides = pos 1;
+  sense = senseNumber (i .sense);
+  target = rateOf (i .target) v;
+  «upper_target» = pos 0;
+  strength = pos (i .strength);
+  «upper_strength» = pos 0;
+  delay = pos (i .delay);
+  limit = limit;
+}
+
+-- "8 code outside 1 to 18; 9 code 17 or 18"
+abbrev pub asked : Advised → ℤ → ℤ → CodedQuestion
+asked (Advised.Judged i) v limit = CodedQuestion.Asked (instructed i v limit)
+asked Advised.NotJudged v limit = CodedQuestion.Refused 9
+asked Advised.Unknown v limit = CodedQuestion.Refused 8
+
+unfoldable pub codedQuestion : ℕ → ℤ → ℤ → CodedQuestion
+unfolding advisedOf
+codedQuestion code v limit = asked (advisedOf code) v limit

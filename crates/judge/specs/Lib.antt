@@ -1,0 +1,10 @@
+pub mod StartingSettings
+pub mod Limits
+pub mod Refusals
+pub mod Sensed
+pub mod Coded
+pub mod Verdicts
+pub mod Answers
+pub mod Demand3
+pub mod Examples
+pub mod Mirror

@@ -1,0 +1,107 @@
+-- "Who can cause a refusal": the condition of each number, and the order in which the entry for plain numbers tests them.
+use mathlib.Core.Bool.{Bool, not, cond, _&&_, _||_}
+use mathlib.Core.List.{List, [], _∷_}
+use Prim.Native.Nat.{ℕ}
+use lib.IntN.{ℤ, pos}
+use lib.Signed.{leZ}
+use Rattle.advisory.specs.declared.Sense.{Sense}
+use Rattle.advisory.specs.declared.Sense.the-variants.{Climb, Descend}
+use Rattle.advisory.specs.Sign.{sensed}
+use Rattle.judge.specs.declared.Encounter.{Encounter}
+use Rattle.judge.specs.declared.Settings.{Settings}
+use Rattle.judge.specs.declared.Question.{Question}
+use Rattle.judge.specs.declared.Checked.{Checked}
+use Rattle.judge.specs.declared.Checked.the-variants.{Accepted, Refused}
+use Rattle.judge.specs.Limits.{within, distanceWithin, heightWithin, closingSpeedWithin, speedWithin, radiusWithin, halfHeightWithin, strengthWithin, accelerationWithin, delayWithin, limitWithin}
+
+-- x is the number n
+abbrev pub isNumber : ℤ → ℤ → Bool
+isNumber n = within n n
+
+-- "Sense 0 descend or 1 climb", "sides 1 or 2"
+abbrev pub climbs : Question → Bool
+climbs z = isNumber (pos 1) (z .sense)
+
+abbrev pub senseOf : Question → Sense
+senseOf z = cond (climbs z) Climb Descend
+
+abbrev pub twoSided : Question → Bool
+twoSided z = isNumber (pos 2) (z .sides)
+
+abbrev pub noLimit : ℤ
+noLimit = pos 65535
+
+-- "1 an encounter field outside its limits"
+abbrev pub encounterWithin : Encounter → Bool
+encounterWithin x = (((distanceWithin (x .distance) && heightWithin (x .height)) && closingSpeedWithin (x .«closing_speed»)) && speedWithin (x .speed)) && speedWithin (x .«intruder_speed»)
+
+-- "2 puck; 3 e"
+abbrev pub puckWithin : Settings → Bool
+puckWithin y = radiusWithin (y .radius) && halfHeightWithin (y .«half_height»)
+
+abbrev pub delayAccelerationWithin : Settings → Bool
+delayAccelerationWithin y = accelerationWithin (y .«delay_acceleration»)
+
+-- "4 sides or sense byte unknown"
+abbrev pub sidesKnown : Question → Bool
+sidesKnown z = (isNumber (pos 1) (z .sides) || isNumber (pos 2) (z .sides)) && (isNumber (pos 0) (z .sense) || isNumber (pos 1) (z .sense))
+
+-- "5 target or strength outside limits; two-sided, also an upper field outside limits, b < a, or w × upper target below w × target; one-sided, also
+-- an upper field not 0"
+abbrev pub lowerWithin : Question → Bool
+lowerWithin z = speedWithin (z .target) && strengthWithin (z .strength)
+
+abbrev pub upperZero : Question → Bool
+upperZero z = isNumber (pos 0) (z .«upper_target») && isNumber (pos 0) (z .«upper_strength»)
+
+abbrev pub upperRanges : Question → Bool
+upperRanges z = speedWithin (z .«upper_target») && strengthWithin (z .«upper_strength»)
+
+abbrev pub strengthsOrdered : Question → Bool
+strengthsOrdered z = leZ (z .strength) (z .«upper_strength»)
+
+abbrev pub targetsOrdered : Question → Bool
+targetsOrdered z = leZ (sensed (senseOf z) (z .target)) (sensed (senseOf z) (z .«upper_target»))
+
+abbrev pub upperWithin : Question → Bool
+upperWithin z = upperRanges z && (strengthsOrdered z && targetsOrdered z)
+
+abbrev pub adviceWithin : Question → Bool
+adviceWithin z = lowerWithin z && cond (twoSided z) (upperWithin z) (upperZero z)
+
+-- "6 delay or limit outside limits, or a delay when two-sided". "Limit 65,535 means none."
+abbrev pub noDelay : Question → Bool
+noDelay z = isNumber (pos 0) (z .delay)
+
+abbrev pub limitAllowed : Question → Bool
+limitAllowed z = limitWithin (z .limit) || isNumber noLimit (z .limit)
+
+abbrev pub timesWithin : Question → Bool
+timesWithin z = (delayWithin (z .delay) && (not (twoSided z) || noDelay z)) && limitAllowed z
+
+-- a refusal's number, and the test that a question must pass not to get it
+pub record Check : Type 0 where
+  pub number : ℕ
+  pub passes : Bool
+
+abbrev pub check : ℕ → Bool → Check
+check number passes = record { number = number; passes = passes }
+
+-- the first of a list, in its order, that fails
+abbrev pub firstRefusal : List Check → Checked
+firstRefusal [] = Accepted
+firstRefusal (c ∷ l) = cond (c .passes) (firstRefusal l) (Refused (c .number))
+
+-- "The entry that judges plain numbers tests 1 to 6 in rising order."
+abbrev pub plainChecks : Encounter → Settings → Question → List Check
+plainChecks x y z =
+    check 1 (encounterWithin x)
+    ∷ check 2 (puckWithin y)
+    ∷ check 3 (delayAccelerationWithin y)
+    ∷ check 4 (sidesKnown z)
+    ∷ check 5 (adviceWithin z)
+    ∷ check 6 (timesWithin z)
+    ∷ []
+
+unfoldable pub refusal : Encounter → Settings → Question → Checked
+refusal x y z = firstRefusal (plainChecks x y z)

@@ -1,0 +1,10 @@
+pub mod Membership
+pub mod AdviceRule
+pub mod Pieces
+pub mod Continued
+pub mod Interval
+pub mod WindowEnds
+pub mod Profile
+pub mod SideProfiles
+pub mod Decisions
+pub mod WholeSeconds

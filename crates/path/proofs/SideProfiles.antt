@@ -1,0 +1,231 @@
+-- The two sides as profiles, so that a conflict time on a side gives one among the instants that the rule tries, or a window without an end in which the
+-- path goes towards the intruder for ever; there it reaches the intruder's level by a numeral second. The delay is a hill; the advice rule is a valley, or
+-- goes down for ever; the upper path, turned over, is a hill or goes up for ever. Assumes nothing.
+use mathlib.Core.Path.{_≡_, refl, sym, ap, _∙_, subst}
+use mathlib.Core.List.{List, [], _∷_}
+use mathlib.Core.Logic.{_⊎_, inl, inr, ⊎-elim}
+use Prim.Native.Nat.{ℕ, _+_, _*_, _-_, _<_, _≤_}
+use native.Mathlib.Nat.{mul-le-mul-left}
+use native.Mathlib.Omega.{arith}
+use lib.IntN.{ℤ, pos, negsuc, negℤ, _+ℤ_, _-ℤ_, _*ℤ_}
+use lib.Signed.{_≤ℤ_, _<ℤ_, leZ, leZ-yes, ltZ-yes}
+use Rattle.integers.specs.Extremes.{max0, maxℤ}
+use Rattle.integers.proofs.Difference.{cond-by}
+use Rattle.integers.proofs.Quotation.{quote}
+use Rattle.integers.proofs.Certificates.{ring, by≤, gap≤, gap<, _⊞_, _⊠_, 0≤pos, pos≤, split<}
+use Rattle.integers.proofs.Laws.{≤ℤ-of-≡, <ℤ-≤ℤ, ≤ℤ-trans, negℤ-mono, negℤ-cancel, max0-le}
+use Rattle.instant.specs.declared.Instant.{Instant}
+use Rattle.instant.specs.declared.Moment.the-variants.{Never}
+use Rattle.instant.specs.Order.{_÷_, _≼_}
+use Rattle.path.specs.declared.SensedQuestion.{SensedQuestion}
+use Rattle.path.specs.declared.Side.{Side}
+use Rattle.path.specs.declared.Side.the-variants.{Lower, Upper}
+use Rattle.path.specs.Paths.{adviceGain, delayHeight, u-d, lowerPath, upperTarget, upperPath}
+use Rattle.path.specs.Window.{Window, windowStart, windowEnd}
+use Rattle.path.specs.Conflict.{lowerEdge, upperEdge, NotBeyond, Conflict}
+use Rattle.path.specs.Instants.{Among, listed, turningInstant, pathInstants, instants}
+use Rattle.path.specs.Sizes.{Sizes, Sized, searchEnd}
+use Rattle.path.proofs.Membership.{among-one, among-either}
+use Rattle.path.proofs.AdviceRule.{missing, gain-rises, gain-falls, gain-at-most, gain-at-least, gain-zero, falls-to-turning, rises-from-turning, gain-sinks, delay-rises, delay-falls, gain-scale, delay-scale}
+use Rattle.path.proofs.Pieces.{Pieces, last-hill, last-rise, last-valley, EndsInHill}
+use Rattle.path.proofs.Continued.{later, continued-after, continued-pieces, continued-scale}
+use Rattle.path.proofs.Interval.{Multiple, Over, over-multiple, Place}
+use Rattle.path.proofs.WindowEnds.{window-between, between-window, windowStart-divisor, windowEnd-divisor}
+use Rattle.path.proofs.Profile.{Shape, Profile, Low, low-instant}
+
+-- the path goes towards the intruder for ever
+abbrev pub Approaches : Side → SensedQuestion → Type 0
+Approaches Lower s = s .target <ℤ pos 0
+Approaches Upper s = pos 0 <ℤ upperTarget s
+
+-- ---- the delay is a hill
+delay-pieces : (e M : ℕ) (u : ℤ) → Pieces (λ n. delayHeight e u n M) 0 []
+delay-pieces e M u = last-hill (λ x y z i j k. ⊎-elim
+    (λ (h : (u *ℤ pos M) <ℤ (pos e *ℤ pos y)). inr (delay-falls e y z M u k (<ℤ-≤ℤ h)))
+    (λ (h : (pos e *ℤ pos y) ≤ℤ (u *ℤ pos M)). inl (delay-rises e x y M u j h))
+    (split< (u *ℤ pos M) (pos e *ℤ pos y)))
+
+-- ---- the advice rule begun at the second w with speed x: it falls to the turning instant and rises from there, or falls for ever
+pub record RuleShape (a w : ℕ) (q x : ℤ) (M : ℕ) : Type 0 where
+  pub marks : List ℕ
+  pub pieces : Pieces (λ n. adviceGain a q x n M) 0 marks
+  pub places : (y : ℕ) → Among y (later (w * M) marks) → Place (listed (turningInstant q a w x)) y M
+  pub tail : EndsInHill pieces → q <ℤ pos 0
+
+pub rule-shape : (a w : ℕ) (q x : ℤ) (M : ℕ) → 0 < a → 0 < M → ((t : Instant) → Among t (listed (turningInstant q a w x)) → Multiple M t) → RuleShape a w q x M
+rule-shape a w (pos q) x M pa pM f =
+    let g = max0 (negℤ x) in
+    let t = w * a + g ÷ a in
+    let k = f t (inl refl) in
+    let s = k .0 in
+    let m : M ≡ a * s = k .1 in
+    let h : a * (g * s) ≡ g * M = omega (arith, ap (λ (z : ℕ). g * z) m) in
+    record {
+      marks = g * s ∷ [];
+      pieces = last-valley {A = 0} (g * s) (omega arith)
+          (λ (y z : ℕ) i (j : y ≤ z) (k : z ≤ g * s). falls-to-turning a y z M q x pa j (omega (arith, mul-le-mul-left a k)))
+          (λ (y z : ℕ) (i : g * s ≤ y) (j : y ≤ z). rises-from-turning a y z M q x j (omega (arith, mul-le-mul-left a i)));
+      places = λ y. among-one (λ z. Place (t ∷ []) z M) (w * M + g * s) y (record {
+        t = t;
+        among = inl refl;
+        over = subst (λ (z : ℕ). Over t z M) {x = (w * a + g) * s} {y = w * M + g * s} (omega (arith, ap (λ (z : ℕ). w * z) m)) (over-multiple t s M pM m);
+      });
+      tail = λ h. absurd h;
+    }
+rule-shape a w (negsuc q) x M pa pM f = record {
+  marks = [];
+  pieces = last-hill (λ z₁ y z i j k. inr (gain-sinks a y z M (negsuc q) x (leZ-yes tt) k));
+  places = λ y i. absurd i;
+  tail = λ h. ltZ-yes tt;
+}
+
+-- ---- the lower path: the delay, continued by the rule
+pub second-over : (w M : ℕ) → 0 < M → Over (w ÷ 1) (w * M) M
+second-over w M p = over-multiple (w ÷ 1) M M p (omega arith)
+
+pub lower-shape : (s : SensedQuestion) → 0 < s .strength → (M : ℕ) → 0 < M → ((t : Instant) → Among t (pathInstants Lower s) → Multiple M t) → Shape (lowerPath s) (pathInstants Lower s) (Approaches Lower s) M
+lower-shape s pa M pM f =
+    let rule = adviceGain (s .strength) (s .target) (u-d s) in
+    let r = rule-shape (s .strength) (s .delay) (s .target) (u-d s) M pa pM (λ t i. f t (inr i)) in
+    let c = continued-pieces (s .strength) (delayHeight (s .«delay_acceleration») (s .speed)) (s .delay) 1 rule (λ m. gain-zero (s .strength) m (s .target) (u-d s)) M
+    (delay-pieces (s .«delay_acceleration») M (s .speed)) (r .pieces) in
+    record {
+      marks = c .marks;
+      pieces = c .pieces;
+      places = λ x i. ⊎-elim
+          (λ h. record { t = s .delay ÷ 1; among = inl refl; over = subst (λ (z : ℕ). Over (s .delay ÷ 1) z M) (sym h) (second-over (s .delay) M pM) })
+          (λ h. let p = r .places x h in record { t = p .t; among = inr (p .among); over = p .over })
+          (c .among x i);
+      tail = λ h. r .tail (c .hilly h);
+    }
+
+turning-divisor : (q : ℤ) (a d : ℕ) (x : ℤ) (t : Instant) → 0 < a → Among t (listed (turningInstant q a d x)) → 0 < t .m
+turning-divisor (pos q) a d x t h i = among-one (λ y. 0 < y .m) (d * a + max0 (negℤ x) ÷ a) t h i
+turning-divisor (negsuc q) a d x t h i = absurd i
+
+-- ---- the upper path turned over: a hill, or for ever up
+turned-scale : (s : ℕ) (x y : ℤ) → x ≡ pos s *ℤ pos s *ℤ y → negℤ x ≡ pos s *ℤ pos s *ℤ negℤ y
+turned-scale s x y h = ap negℤ h ∙ ring (s ∷ []) (y ∷ []) (λ v. search quote depth 20) tt
+
+pub upper-shape : (b : ℕ) (q u : ℤ) (M : ℕ) → Shape (λ n m. negℤ (adviceGain b q u n m)) [] (pos 0 <ℤ q) M
+upper-shape b q u M = ⊎-elim
+    (λ (t : pos 0 <ℤ q). record {
+      marks = [];
+      places = λ x h. absurd h;
+      tail = λ _. t;
+      pieces = last-hill (λ x y z i j k. ⊎-elim
+          (λ (h : (q *ℤ pos M) <ℤ pos (missing b q u y M)). inl (negℤ-mono (gain-falls b x y M q u j (<ℤ-≤ℤ h))))
+          (λ (h : pos (missing b q u y M) ≤ℤ (q *ℤ pos M)). inr (negℤ-mono (gain-rises b y z M q u k h)))
+          (split< (q *ℤ pos M) (pos (missing b q u y M))));
+    })
+    (λ (t : q ≤ℤ pos 0). record {
+      marks = [];
+      places = λ x h. absurd h;
+      tail = λ h. absurd h;
+      pieces = last-rise (λ x z i j. negℤ-mono (gain-sinks b x z M q u t j));
+    })
+    (split< (pos 0) q)
+
+-- ---- the two profiles
+pub path-divisor : (side : Side) (s : SensedQuestion) → Sized side s → (t : Instant) → Among t (pathInstants side s) → 0 < t .m
+path-divisor Lower s z t (inl e) = omega (arith, ap (λ (x : Instant). x .m) e)
+path-divisor Lower s z t (inr i) = turning-divisor (s .target) (s .strength) (s .delay) (u-d s) t (z .a-lo) i
+path-divisor Upper s z t i = absurd i
+
+pub instants-divisor : (side : Side) (s : SensedQuestion) → Sized side s → (t : Instant) → Among t (instants side s) → 0 < t .m
+instants-divisor side s z t (inl e) = subst (λ (x : Instant). 0 < x .m) (sym e) (windowStart-divisor s)
+instants-divisor side s z t (inr i) = ⊎-elim (path-divisor side s z t) (windowEnd-divisor s t) (among-either t (pathInstants side s) (listed (windowEnd s)) i)
+
+profile : (side : Side) (s : SensedQuestion) → Sized side s → Profile
+profile Lower s z = record {
+  In = Window s;
+  first = windowStart s;
+  last = windowEnd s;
+  in-between = λ n m p. window-between s n m;
+  between-in = between-window s;
+  height = lowerPath s;
+  edge = lowerEdge s;
+  height-scale = continued-scale (s .strength) (delayHeight (s .«delay_acceleration») (s .speed)) (s .delay) 1 (adviceGain (s .strength) (s .target) (u-d s)) (λ m. gain-zero (s .strength) m (s .target) (u-d s))
+      (λ n m x. delay-scale (s .«delay_acceleration») n m x (s .speed)) (λ n m x. gain-scale (s .strength) n m x (s .target) (u-d s));
+  edge-scale = λ m x. ring (s .strength ∷ m ∷ x ∷ s .«half_height» ∷ []) (s .level ∷ []) (λ v. search quote depth 20) tt;
+  mids = pathInstants Lower s;
+  sinks = Approaches Lower s;
+  shape = lower-shape s (z .a-lo);
+  divisor = instants-divisor Lower s z;
+}
+profile Upper s z = record {
+  In = Window s;
+  first = windowStart s;
+  last = windowEnd s;
+  in-between = λ n m p. window-between s n m;
+  between-in = between-window s;
+  height = λ n m. negℤ (upperPath s n m);
+  edge = λ m. negℤ (upperEdge s m);
+  height-scale = λ n m x. turned-scale x (upperPath s (n * x) (m * x)) (upperPath s n m) (gain-scale (s .«upper_strength») n m x (upperTarget s) (s .speed));
+  edge-scale = λ m x. ring (s .«upper_strength» ∷ m ∷ x ∷ s .«half_height» ∷ []) (s .level ∷ []) (λ v. search quote depth 20) tt;
+  mids = pathInstants Upper s;
+  sinks = Approaches Upper s;
+  shape = λ M p f. upper-shape (s .«upper_strength») (upperTarget s) (s .speed) M;
+  divisor = instants-divisor Upper s z;
+}
+
+conflict-low : (side : Side) (s : SensedQuestion) (z : Sized side s) (n m : ℕ) → Conflict side s n m → Low (profile side s z) n m
+unfolding profile
+conflict-low Lower s z n m c = record { window = c .window; below = c .vertical }
+conflict-low Upper s z n m c = record { window = c .window; below = negℤ-mono (c .vertical) }
+
+low-conflict : (side : Side) (s : SensedQuestion) (z : Sized side s) (n m : ℕ) → Low (profile side s z) n m → Conflict side s n m
+unfolding profile
+low-conflict Lower s z n m l = record { window = l .window; vertical = l .below }
+low-conflict Upper s z n m l = record { window = l .window; vertical = negℤ-cancel (l .below) }
+
+-- ---- what a conflict time on a side gives
+-- a listed instant with a conflict
+pub record Hit (side : Side) (s : SensedQuestion) : Type 0 where
+  pub t : Instant
+  pub among : Among t (instants side s)
+  pub conflict : Conflict side s (t .n) (t .m)
+
+-- no end, and the path goes towards the intruder for ever; from its start on, every whole second is in the window
+pub record Endless (side : Side) (s : SensedQuestion) : Type 0 where
+  pub endless : windowEnd s ≡ Never
+  pub approaches : Approaches side s
+  pub inside : (j : ℕ) → windowStart s ≼ j ÷ 1 → Window s j 1
+
+pub conflict-instant : (side : Side) (s : SensedQuestion) → Sized side s → (n m : ℕ) → 0 < m → Conflict side s n m → Hit side s ⊎ Endless side s
+unfolding profile
+conflict-instant Lower s z n m pm c = low-instant (profile Lower s z) n m pm (conflict-low Lower s z n m c) (Hit Lower s ⊎ Endless Lower s)
+    (λ t i l. inl (record { t = t; among = i; conflict = low-conflict Lower s z (t .n) (t .m) l }))
+    (λ e a w. inr (record { endless = e; approaches = a; inside = w }))
+conflict-instant Upper s z n m pm c = low-instant (profile Upper s z) n m pm (conflict-low Upper s z n m c) (Hit Upper s ⊎ Endless Upper s)
+    (λ t i l. inl (record { t = t; among = i; conflict = low-conflict Upper s z (t .n) (t .m) l }))
+    (λ e a w. inr (record { endless = e; approaches = a; inside = w }))
+
+-- ---- such a path has reached the intruder at `searchEnd`
+lower-reaches : (s : SensedQuestion) → Sizes s → s .target <ℤ pos 0 → lowerPath s (s .delay + 1680000) 1 ≤ℤ lowerEdge s 1
+unfolding delayHeight
+lower-reaches s z h =
+    let rule = adviceGain (s .strength) (s .target) (u-d s) in
+    let f = delayHeight (s .«delay_acceleration») (s .speed) in
+    ≤ℤ-trans
+    (≤ℤ-of-≡ (continued-after (s .strength) f (s .delay) 1 rule (λ m. gain-zero (s .strength) m (s .target) (u-d s)) (s .delay + 1680000) 1 (omega arith)
+    ∙ ap (λ (x : ℕ). pos (s .strength) *ℤ f (s .delay * 1) 1 +ℤ pos 1 *ℤ rule x 1) {x = s .delay + 1680000 - s .delay * 1} {y = 1680000} (omega arith)))
+    (by≤ (s .strength ∷ s .delay ∷ s .«delay_acceleration» ∷ s .«half_height» ∷ []) (s .speed ∷ s .target ∷ s .level ∷ adviceGain (s .strength) (s .target) (u-d s) 1680000 1 ∷ [])
+    (gap≤ (gain-at-most (s .strength) 1680000 1 (s .target) (u-d s))
+    ⊞ 0≤pos (2 * s .strength) ⊠ (gap≤ (z .wh-lo) ⊞ 0≤pos (s .delay) ⊠ gap≤ (z .u-hi) ⊞ 0≤pos 20000 ⊠ gap≤ (pos≤ (z .d-hi)) ⊞ gap< h ⊠ 0≤pos 1680000))
+    (λ v. search quote depth 20) tt)
+
+missing-size : (x y : ℤ) → (x -ℤ y) ≤ℤ pos 20000 → max0 (maxℤ x y -ℤ y) ≤ 20000
+missing-size x y h = max0-le (maxℤ x y -ℤ y) 20000
+    (cond-by (leZ x y) y x (λ z. (z -ℤ y) ≤ℤ pos 20000) (λ t. by≤ [] (y ∷ []) (0≤pos 0) (λ v. search quote depth 20) tt) (λ t. h))
+
+upper-reaches : (b k : ℕ) (q u level : ℤ) → 1 ≤ b → pos 0 <ℤ q → max0 (q -ℤ u) ≤ 20000 → level ≤ℤ pos 480000 → (pos 2 *ℤ pos b *ℤ pos 1 *ℤ pos 1 *ℤ (level -ℤ pos k)) ≤ℤ adviceGain b q u 200480000 1
+upper-reaches b k q u level hb hq hg hl = ≤ℤ-trans
+    (by≤ (b ∷ k ∷ max0 (q -ℤ u) ∷ []) (q ∷ level ∷ [])
+    (0≤pos (2 * b) ⊠ gap≤ hl ⊞ 0≤pos (400960000 * b) ⊠ gap< hq ⊞ 0≤pos 400000000 ⊠ gap≤ (pos≤ hb) ⊞ gap≤ (pos≤ hg) ⊠ 0≤pos (20000 + max0 (q -ℤ u)))
+    (λ v. search quote depth 20) tt)
+    (gain-at-least b 200480000 1 q u)
+
+pub reaches-end : (side : Side) (s : SensedQuestion) → Sized side s → Approaches side s → NotBeyond side s (searchEnd side s) 1
+reaches-end Lower s z h = lower-reaches s z h
+reaches-end Upper s z h = upper-reaches (s .«upper_strength») (s .«half_height») (upperTarget s) (s .speed) (s .level) (z .1 .b-lo) h (missing-size (s .«upper_target») (s .speed) (z .1 .change)) (z .0 .wh-hi)

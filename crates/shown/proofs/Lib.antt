@@ -1,0 +1,5 @@
+pub mod FirstOf
+pub mod Steps
+pub mod RulePicks
+pub mod InstantsInReach
+pub mod CodeInstants

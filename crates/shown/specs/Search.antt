@@ -1,0 +1,32 @@
+-- What the steps of the code know and give: which instants have been tried without a conflict, and the first whole second by its height alone.
+use mathlib.Core.Path.{_≡_}
+use mathlib.Core.Bool.{true, false}
+use Rattle.instant.specs.declared.Moment.{Moment}
+use Rattle.path.specs.declared.SensedQuestion.{SensedQuestion}
+use Rattle.path.specs.declared.Side.{Side}
+use Rattle.path.specs.declared.Side.the-variants.{Lower, Upper}
+use Rattle.path.specs.Letters.{d}
+use Rattle.path.specs.Window.{windowStart}
+use Rattle.path.specs.Conflict.{notBeyond, inConflict}
+use Rattle.path.specs.Sizes.{searchStart}
+use Rattle.shown.specs.TimeShown.{approaches, firstSecond, secondsTried}
+
+-- no conflict at the window's start
+abbrev pub StartTried : Side → SensedQuestion → Type 0
+StartTried side s = inConflict side s (windowStart s .n) (windowStart s .m) ≡ false
+
+-- nor, on the lower side, at the delay's end
+abbrev pub Tried : Side → SensedQuestion → Type 0
+Tried Lower s = StartTried Lower s × (inConflict Lower s (d s) 1 ≡ false)
+Tried Upper s = StartTried Upper s
+
+-- a search may begin: the path goes towards the intruder for ever, and is beyond it at 0 and where the search starts
+pub record Searchable (side : Side) (s : SensedQuestion) : Type 0 where
+  pub approach : approaches side s ≡ true
+  pub zero : notBeyond side s 0 1 ≡ false
+  pub start : notBeyond side s (searchStart side s) 1 ≡ false
+
+-- the first whole second at which the path is not beyond the intruder
+unfoldable pub firstReached : Side → SensedQuestion → Moment
+unfolding notBeyond
+firstReached side s = firstSecond (λ j. notBeyond side s j 1) (secondsTried side) 0
