@@ -6,7 +6,7 @@ use mathlib.Core.Logic.{_⊎_, inl, inr, ⊎-elim}
 use Prim.Native.Nat.{ℕ, _≤_}
 use native.Mathlib.Omega.{arith}
 use lib.Dec.{T}
-use lib.Ieee.Fits.{and-l, and-r}
+use lib.Ieee.Fits.{and-i, and-l, and-r}
 use lib.IntN.{ℤ, pos, negℤ, _-ℤ_}
 use lib.Signed.{_≤ℤ_, leZ, leZ-yes}
 use Rattle.integers.specs.Extremes.{max0}
@@ -46,6 +46,9 @@ pub record Between (lo hi x : ℤ) : Type 0 where
 
 pub between : (lo hi x : ℤ) → T (within lo hi x) → Between lo hi x
 between lo hi x t = record { from = leZ-yes (and-l (leZ lo x) (leZ x hi) t); to = leZ-yes (and-r (leZ lo x) (leZ x hi) t) }
+
+pub within-in : {lo hi x : ℤ} → lo ≤ℤ x → x ≤ℤ hi → T (within lo hi x)
+within-in {lo} {hi} {x} h k = and-i (leZ lo x) (leZ x hi) (h .le) (k .le)
 
 pub or-else : (a b : Bool) → T (a || b) → T a ⊎ T b
 or-else true b t = inl tt

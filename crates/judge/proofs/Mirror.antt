@@ -29,7 +29,7 @@ use Rattle.judge.specs.Answers.{answer}
 use Rattle.judge.specs.StartingSettings.{startingSettings}
 use Rattle.judge.specs.Examples.{meet, descend, answerTo}
 use Rattle.judge.specs.Mirror.{mirrored, turned}
-use Rattle.judge.proofs.AcceptedSizes.{AllPass, all-pass, Between, between, or-else}
+use Rattle.judge.proofs.AcceptedSizes.{AllPass, all-pass, between, within-in, or-else}
 use Rattle.judge.proofs.Demand3.{judged}
 
 -- ---- the senses
@@ -109,14 +109,10 @@ module _ (x : Encounter) (y : Settings) (z : Question) (t : Turned z) where
       ∙ ap₂ (λ (a b : ℤ). with-sensed (sensed (senseOf z) (x .height)) (sensed (senseOf z) (x .speed -ℤ x .«intruder_speed»)) a b) (same-difference (z .target)) (same-difference (z .«upper_target»))
 
 -- ---- and it is accepted too
-within-in : {lo hi x : ℤ} → Between lo hi x → T (within lo hi x)
-within-in {lo} {hi} {x} h = and-i (leZ lo x) (leZ x hi) (h .from .le) (h .to .le)
-
 mirror-within : (B : ℕ) (x : ℤ) → T (within (negℤ (pos B)) (pos B) x) → T (within (negℤ (pos B)) (pos B) (negℤ x))
-mirror-within B x t = let b = between (negℤ (pos B)) (pos B) x t in within-in (record {
-  from = negℤ-mono (b .to);
-  to = by≤ (B ∷ []) (x ∷ []) (gap≤ (b .from)) (λ v. search quote depth 20) tt;
-})
+mirror-within B x t =
+    let b = between (negℤ (pos B)) (pos B) x t in
+    within-in (negℤ-mono (b .to)) (by≤ (B ∷ []) (x ∷ []) (gap≤ (b .from)) (λ v. search quote depth 20) tt)
 
 zero-mirror : (x : ℤ) → T (isNumber (pos 0) x) → T (isNumber (pos 0) (negℤ x))
 zero-mirror x t = subst (λ (v : ℤ). T (isNumber (pos 0) (negℤ v))) (sym (is-number (pos 0) x t)) tt

@@ -11,7 +11,7 @@ use lib.Ieee.Bits.{is-true}
 use lib.Ieee.Fits.{and-i, and-l, and-r}
 use lib.ListN.{getD}
 use lib.IntN.{ℤ, pos, negℤ, _-ℤ_, _*ℤ_}
-use lib.Signed.{_≤ℤ_, leZ, leZ-yes}
+use lib.Signed.{leZ-yes}
 use Rattle.integers.specs.Extremes.{max0}
 use Rattle.integers.proofs.Certificates.{0≤pos, pos≤}
 use Rattle.integers.proofs.Laws.{≤ℤ-trans, max0-same}
@@ -37,14 +37,14 @@ use Rattle.judge.specs.declared.ClearSides.{ClearSides}
 use Rattle.judge.specs.declared.Verdict.{Verdict}
 use Rattle.judge.specs.declared.Verdict.the-variants.{Clear, Conflict, Conflicts}
 use Rattle.judge.specs.declared.Answer.{Answer}
-use Rattle.judge.specs.Limits.{within, distanceWithin, heightWithin, closingSpeedWithin, speedWithin, strengthWithin, delayWithin}
+use Rattle.judge.specs.Limits.{distanceWithin, heightWithin, closingSpeedWithin, speedWithin, strengthWithin, delayWithin}
 use Rattle.judge.specs.Refusals.{isNumber, twoSided, noLimit, encounterWithin, puckWithin, delayAccelerationWithin, sidesKnown, lowerWithin, adviceWithin, timesWithin, refusal}
 use Rattle.judge.specs.Sensed.{limitOf, sensedQuestion}
 use Rattle.judge.specs.Coded.{senseNumber, instructed, asked, codedQuestion}
 use Rattle.judge.specs.Verdicts.{verdict}
 use Rattle.judge.specs.Answers.{answer, AnswerRecord, answerRecord}
 use Rattle.judge.specs.Demand3.{RightOneSided}
-use Rattle.judge.proofs.AcceptedSizes.{Between, between, accepted-sizes, within-limits}
+use Rattle.judge.proofs.AcceptedSizes.{Between, between, within-in, accepted-sizes, within-limits}
 use Rattle.judge.proofs.Branches.{picks-yes}
 use Rattle.judge.proofs.Demand3.{judged, one-sided}
 use Rattle.region.specs.Formula.{Formula, Says}
@@ -117,9 +117,6 @@ sense-known Descend = refl
 same-numbers : (F : ℤ → ℤ → ℤ → ℤ → Sense → Formula) {c c′ p p′ k k′ e e′ : ℤ} {w w′ : Sense} → c ≡ c′ → p ≡ p′ → k ≡ k′ → e ≡ e′ → w ≡ w′ → F c p k e w ≡ F c′ p′ k′ e′ w′
 same-numbers F i j l m n = cc
 
-in-range : {lo hi v : ℤ} → lo ≤ℤ v → v ≤ℤ hi → T (within lo hi v)
-in-range {lo} {hi} {v} h k = and-i (leZ lo v) (leZ v hi) (h .le) (k .le)
-
 module _ (x : Encounter) (y : Settings) (encounter : encounterWithin x ≡ true) (puck : puckWithin y ≡ true) (acceleration : delayAccelerationWithin y ≡ true) where
   own-speed : Between (negℤ (pos 10000)) (pos 10000) (x .speed)
   own-speed =
@@ -135,14 +132,14 @@ module _ (x : Encounter) (y : Settings) (encounter : encounterWithin x ≡ true)
     advice =
         and-i (lowerWithin question) true
         (and-i (speedWithin (rateOf (i .target) (x .speed))) (strengthWithin (pos (i .strength)))
-        (in-range (limits .target-from (x .speed) (own-speed .from)) (limits .target-to (x .speed) (own-speed .to)))
-        (in-range (pos≤ (limits .strength-from)) (pos≤ (limits .strength-to))))
+        (within-in (limits .target-from (x .speed) (own-speed .from)) (limits .target-to (x .speed) (own-speed .to)))
+        (within-in (pos≤ (limits .strength-from)) (pos≤ (limits .strength-to))))
         tt
 
     times : T (timesWithin question)
     times =
         let d = delayWithin (pos (i .delay)) in
-        and-i (d && true) true (and-i d true (in-range (0≤pos (i .delay)) (pos≤ (limits .delay-to))) tt) tt
+        and-i (d && true) true (and-i d true (within-in (0≤pos (i .delay)) (pos≤ (limits .delay-to))) tt) tt
 
     -- the encounter and the settings meet conditions 1 to 3, an instruction meets 4 to 6
     coded-accepted : refusal x y question ≡ Checked.Accepted
