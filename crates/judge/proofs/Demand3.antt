@@ -1,6 +1,6 @@
 -- Demand 3, for every accepted question: the answer is judged, and its verdict is right in the sense of specs/Demand3.antt, for one and for two sides. The only
 -- premise is that the ordered refusals give none. Assumes nothing.
-use mathlib.Core.Path.{_≡_, refl, sym, ap, subst}
+use mathlib.Core.Path.{_≡_, refl, sym, ap, _∙_, subst}
 use mathlib.Core.Bool.{Bool, true, false, cond}
 use mathlib.Core.Logic.{_↔_}
 use Rattle.instant.specs.declared.Instant.{Instant}
@@ -26,8 +26,9 @@ use Rattle.judge.specs.declared.Answer.{Answer}
 use Rattle.judge.specs.Refusals.{twoSided, refusal}
 use Rattle.judge.specs.Sensed.{sensedQuestion}
 use Rattle.judge.specs.Verdicts.{timeOf, oneSidedVerdict, twoSidedVerdict, verdict}
-use Rattle.judge.specs.Answers.{checkedAnswer, answer}
-use Rattle.judge.specs.Demand3.{ShownTime, RightOneSided, RightTwoSided, SaysConflict}
+use Rattle.judge.specs.Answers.{checkedAnswer, answer, answerRecord}
+use Rattle.judge.specs.Demand3.{ShownTime, RightOneSided, RightTwoSided, RightVerdict, RightAnswer, SaysConflict}
+use Rattle.judge.proofs.AnswerRecords.{record-determines}
 use Rattle.judge.proofs.AcceptedSizes.{accepted-sizes, accepted-upper-sizes}
 
 -- ---- one side: no conflict time, or a time shown
@@ -100,3 +101,11 @@ module _ (x : Encounter) (y : Settings) (z : Question) (accepted : refusal x y z
 
   pub two-sided-exactly : twoSided z ≡ true → SaysConflict (verdict z (sensedQuestion x y z)) ↔ (ConflictExists Lower (sensedQuestion x y z) × ConflictExists Upper (sensedQuestion x y z))
   two-sided-exactly e = two-iff (verdict z (sensedQuestion x y z)) (two-sided e)
+
+-- ---- demand 3 of the entry's result: whatever has the record of the answer is a right answer
+pub demand-3 : (x : Encounter) (y : Settings) (z : Question) → refusal x y z ≡ Checked.Accepted → (r : Answer) → answerRecord r ≡ answerRecord (answer x y z) → RightAnswer z (sensedQuestion x y z) r
+demand-3 x y z accepted r e = subst (RightAnswer z (sensedQuestion x y z)) (sym (record-determines r (answer x y z) e ∙ judged x y z accepted)) (go (twoSided z) refl)
+  where
+    go : (b : Bool) → twoSided z ≡ b → RightVerdict b (sensedQuestion x y z) (verdict z (sensedQuestion x y z))
+    go false h = one-sided x y z accepted h
+    go true h = two-sided x y z accepted h

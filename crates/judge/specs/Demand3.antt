@@ -1,4 +1,5 @@
 -- Demand 3: what it is for an answer to be right. "Such a time" is a rational conflict time of the paths (`path`, specs/Conflict.antt).
+use mathlib.Core.Bool.{Bool, true, false}
 use Rattle.instant.specs.declared.Instant.{Instant}
 use Rattle.instant.specs.declared.Moment.the-variants.{At}
 use Rattle.instant.specs.declared.Time.{Time}
@@ -8,9 +9,12 @@ use Rattle.path.specs.declared.Side.{Side}
 use Rattle.path.specs.declared.Side.the-variants.{Lower, Upper}
 use Rattle.path.specs.Conflict.{ConflictTime, ConflictExists}
 use Rattle.shown.specs.TimeRule.{Picks}
+use Rattle.judge.specs.declared.Question.{Question}
 use Rattle.judge.specs.declared.ClearSides.{ClearSides}
 use Rattle.judge.specs.declared.Verdict.{Verdict}
 use Rattle.judge.specs.declared.Verdict.the-variants.{Clear, Conflict, Conflicts}
+use Rattle.judge.specs.declared.Answer.{Answer}
+use Rattle.judge.specs.Refusals.{twoSided}
 
 -- A time shown on a side: it is a conflict time there, and so in the window; it is the one that the time rule picks; it stands in lowest terms, and its
 -- three numbers are below 2³².
@@ -36,6 +40,16 @@ RightTwoSided s (Clear ClearSides.Upper) = ConflictExists Lower s × (¬ Conflic
 RightTwoSided s (Clear ClearSides.Both) = (¬ ConflictExists Lower s) × (¬ ConflictExists Upper s)
 RightTwoSided s (Conflict t) = ⊥
 RightTwoSided s (Conflicts t u) = ShownTime Lower s t × ShownTime Upper s u
+
+-- by whether the question is two-sided
+abbrev pub RightVerdict : Bool → SensedQuestion → Verdict → Type 0
+RightVerdict false s v = RightOneSided s v
+RightVerdict true s v = RightTwoSided s v
+
+-- an accepted question is judged, and the verdict is right
+abbrev pub RightAnswer : Question → SensedQuestion → Answer → Type 0
+RightAnswer z s (Answer.Judged v) = RightVerdict (twoSided z) s v
+RightAnswer z s (Answer.Refused n) = ⊥
 
 -- the verdict is "conflict"
 abbrev pub SaysConflict : Verdict → Type 0

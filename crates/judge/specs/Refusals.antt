@@ -1,4 +1,5 @@
--- "Who can cause a refusal": the condition of each number, and the order in which the entry for plain numbers tests them.
+-- "Who can cause a refusal": the condition of each number, and the order in which the entry for plain numbers tests them. x is an encounter, y the settings,
+-- z a question.
 use mathlib.Core.Bool.{Bool, not, cond, _&&_, _||_}
 use mathlib.Core.List.{List, [], _∷_}
 use Prim.Native.Nat.{ℕ}

@@ -1,0 +1,117 @@
+//! compare [COUNT] [SEED]: holds the proved judge against the independent implementation on COUNT
+//! plain questions (10 million) and a hundredth as many sheets, and on the worked questions and
+//! sheets. The status is 0 only if no answer differs and every required class was met. Sheets want
+//! the feature `sheets`.
+
+use compare::check::{self, Tally, argument};
+use compare::examples;
+use compare::ffi::{self, JudgeResult};
+use compare::generate::{self, Random};
+use compare::independent::{Accepted, NAMES, Question, judge};
+use std::process::ExitCode;
+use std::time::Instant;
+
+fn describe(name: &str, q: &Question, wanted: JudgeResult, found: JudgeResult) -> String {
+    let mut text = format!("{name}: {q}\n");
+    for (field, n) in NAMES.iter().zip(q.numbers()) {
+        text += &format!("  {field:<16}{n}\n");
+    }
+    text += &format!("  wanted {wanted:?}\n  found  {found:?}\n");
+    if let Ok(x) = Accepted::of(q) {
+        text += &format!("  in document 01's letters {x:?}\n");
+        text += &format!("  lower side {:?}\n", x.lower_side());
+        if let Some(upper) = x.upper {
+            text += &format!("  upper side {:?}\n", x.upper_side(upper));
+        }
+    }
+    text
+}
+
+fn question(tally: &mut Tally, name: impl Fn() -> String, q: &Question, wanted: JudgeResult) {
+    let found = ffi::judge(q);
+    if found != wanted {
+        tally.differ(|| describe(&name(), q, wanted, found));
+    }
+}
+
+#[cfg(feature = "sheets")]
+fn sheet(tally: &mut Tally, name: impl Fn() -> String, case: &generate::SheetCase) {
+    let expected = tally.sheet(case);
+    let mut area = expected.before.clone();
+    let found = ffi::answer_sheet(&case.sheet, &mut area);
+    let wanted = ffi::SheetResult::of(expected.outcome);
+    if found != wanted || area != expected.after {
+        tally.differ(|| {
+            let place = area.iter().zip(&expected.after).position(|(x, y)| x != y);
+            format!(
+                "{}: {:?}, area {:?} of {} bytes\n  sheet {}\n  wanted {wanted:?}\n  found  {found:?}\n  \
+                 first wrong byte of the area: {place:?}\n  area wanted {}\n  area found  {}\n",
+                name(),
+                case.form,
+                case.area_form,
+                area.len(),
+                examples::to_hex(&case.sheet),
+                examples::to_hex(&expected.after),
+                examples::to_hex(&area),
+            )
+        });
+    }
+}
+
+#[cfg(feature = "sheets")]
+fn sheets(tally: &mut Tally, count: u64, seed: u64, began: Instant) {
+    for (name, bytes, _) in examples::sheets() {
+        let case = check::plain_sheet_case(bytes);
+        sheet(tally, || name.to_string(), &case);
+    }
+    for i in 0..count {
+        let case = generate::sheet(seed, i);
+        sheet(tally, || format!("sheet {i} of seed {seed}"), &case);
+        progress("sheets", i + 1, count, tally, began);
+    }
+}
+
+#[cfg(not(feature = "sheets"))]
+fn sheets(_: &mut Tally, _: u64, _: u64, _: Instant) {
+    println!("no sheet was compared");
+}
+
+fn main() -> ExitCode {
+    let count = argument(1, 10_000_000);
+    let seed = argument(2, 1);
+    println!("compare: {count} questions, seed {seed}");
+    let began = Instant::now();
+    let mut tally = Tally::default();
+    check::examples(&mut tally);
+    for group in examples::worked() {
+        for (name, q) in group.cases {
+            question(&mut tally, || name.clone(), &q, JudgeResult::of(&judge(&q)));
+        }
+    }
+    let mut random = Random::new(seed);
+    for i in 0..count {
+        let q = generate::question(seed, i);
+        let answer = tally.question(&q, &mut random);
+        question(
+            &mut tally,
+            || format!("question {i} of seed {seed}"),
+            &q,
+            JudgeResult::of(&answer),
+        );
+        progress("questions", i + 1, count, &tally, began);
+    }
+    sheets(&mut tally, count.div_ceil(100), seed, began);
+    ExitCode::from(tally.finish())
+}
+
+/// A line for each tenth of the way.
+fn progress(what: &str, done: u64, of: u64, tally: &Tally, began: Instant) {
+    let tenth = of.div_ceil(10);
+    if done.is_multiple_of(tenth) || done == of {
+        eprintln!(
+            "{done} of {of} {what}, {} differences, {:.0} s",
+            tally.differences(),
+            began.elapsed().as_secs_f64()
+        );
+    }
+}

@@ -1,0 +1,131 @@
+//! The proved judge, as the static library `binding` exports it.
+//!
+//! Nothing checks these declarations against the library. Both functions take any values.
+
+use crate::independent::{Answer, Question, Time};
+
+/// The answer to plain numbers. Numbers that the kind does not use are 0.
+#[repr(C)]
+#[derive(Clone, Copy, Debug, PartialEq, Eq)]
+pub struct JudgeResult {
+    /// 65 to 68.
+    pub kind: u64,
+    /// Kind 65: the clear sides; kind 68: the refusal.
+    pub number: u64,
+    pub lower_seconds: u64,
+    pub lower_remainder: u64,
+    pub lower_divisor: u64,
+    pub upper_seconds: u64,
+    pub upper_remainder: u64,
+    pub upper_divisor: u64,
+}
+
+/// The outcome of a sheet: refusal 0 and the answer's length, or the refusal and length 0.
+#[repr(C)]
+#[derive(Clone, Copy, Debug, PartialEq, Eq)]
+pub struct SheetResult {
+    pub refusal: u64,
+    pub length: u64,
+}
+
+unsafe extern "C" {
+    fn judge_plain(
+        r: i64,
+        h: i64,
+        c: i64,
+        v: i64,
+        vi: i64,
+        p: i64,
+        k: i64,
+        e: i64,
+        sides: i64,
+        sense: i64,
+        target: i64,
+        upper_target: i64,
+        strength: i64,
+        upper_strength: i64,
+        delay: i64,
+        limit: i64,
+    ) -> JudgeResult;
+
+    #[cfg(feature = "sheets")]
+    fn answer_sheet_bytes(
+        sheet: *const u8,
+        sheet_length: usize,
+        area: *mut u8,
+        area_length: usize,
+    ) -> SheetResult;
+}
+
+/// The judge's answer to plain numbers.
+#[inline]
+pub fn judge(q: &Question) -> JudgeResult {
+    // SAFETY: sixteen numbers by value; the judge takes any and writes no memory.
+    unsafe {
+        judge_plain(
+            q.r,
+            q.h,
+            q.c,
+            q.v,
+            q.vi,
+            q.p,
+            q.k,
+            q.e,
+            q.sides,
+            q.sense,
+            q.target,
+            q.upper_target,
+            q.strength,
+            q.upper_strength,
+            q.delay,
+            q.limit,
+        )
+    }
+}
+
+/// The judge's answer to a sheet, written to the front of the area.
+#[cfg(feature = "sheets")]
+#[inline]
+pub fn answer_sheet(sheet: &[u8], area: &mut [u8]) -> SheetResult {
+    // SAFETY: both slices are valid for their lengths and do not overlap.
+    unsafe { answer_sheet_bytes(sheet.as_ptr(), sheet.len(), area.as_mut_ptr(), area.len()) }
+}
+
+impl JudgeResult {
+    /// The result that stands for an answer.
+    pub fn of(answer: &Answer) -> JudgeResult {
+        let none = [0; 3];
+        let time = |t: Time| [t.seconds, t.remainder, t.divisor].map(u64::from);
+        let (number, lower, upper) = match *answer {
+            Answer::Clear(n) | Answer::Refused(n) => (u64::from(n), none, none),
+            Answer::Conflict(t) => (0, time(t), none),
+            Answer::BothConflict(t, j) => (0, time(t), time(j)),
+        };
+        JudgeResult {
+            kind: u64::from(answer.kind()),
+            number,
+            lower_seconds: lower[0],
+            lower_remainder: lower[1],
+            lower_divisor: lower[2],
+            upper_seconds: upper[0],
+            upper_remainder: upper[1],
+            upper_divisor: upper[2],
+        }
+    }
+}
+
+impl SheetResult {
+    /// The result that stands for an outcome.
+    pub fn of(outcome: Result<usize, u8>) -> SheetResult {
+        match outcome {
+            Ok(length) => SheetResult {
+                refusal: 0,
+                length: length as u64,
+            },
+            Err(number) => SheetResult {
+                refusal: u64::from(number),
+                length: 0,
+            },
+        }
+    }
+}

@@ -1,0 +1,15 @@
+//! An independent implementation of document 01 (the scope of the vertical advisory judge), a
+//! generator of questions and sheets, and what is needed to hold the proved judge against it.
+
+pub mod catalogue;
+pub mod check;
+pub mod edges;
+pub mod exact;
+pub mod examples;
+#[cfg(feature = "judge")]
+pub mod ffi;
+pub mod figures;
+pub mod generate;
+pub mod independent;
+pub mod motion;
+pub mod sheet;

@@ -1,0 +1,140 @@
+-- `sheet::write_sheet_answer` meets its contract. The loop's invariant: the remaining answer, stored from the place on, makes the whole.
+use mathlib.Core.Path.{_≡_, refl, sym, ap, _∙_}
+use Prim.Native.Nat.{_+_, _-_, _≤_}
+use native.Mathlib.Omega.{arith}
+use lib.ListN.{length, drop}
+use Rattle.judge.specs.declared.Checked.the-variants.{Accepted}
+use lib.Seq.{sets, length-sets}
+use Rattle.sheet.specs.declared.State.{State}
+use Rattle.sheet.specs.Records.{records}
+use Rattle.sheet.specs.States.{stateAfter}
+use Rattle.sheet.specs.Replies.{replyTo}
+use Rattle.sheet.specs.AnswerBytes.{replyBytes, answersFrom}
+use Rattle.sheet.specs.SheetCheck.{faultAfter}
+use Rattle.sheet.specs.WholeSheet.{sheetAnswer}
+use Rattle.sheet.proofs.Scan.{nextAt, whole-record, answers-done, answers-here, answers-length-here, accepted-sheet}
+use Rattle.sheet.proofs.Writing.{sets-append}
+use borrow.Author.Needs.{needs}
+use Rattle.sheet.proofs.write_sheet_answer.Statement.{statement}
+use Rattle.sheet.proofs.write_sheet_answer.Tie as tie
+
+abbrev Inv-loop : tie.InvT-loop
+Inv-loop sheet area₀ place₀ written₀ state₀ area place written state =
+    (place ≤ length sheet) × (faultAfter 0 (drop place sheet) ≡ Accepted) × (written + length (answersFrom state (records (drop place sheet))) ≤ length area)
+    × (sets area₀ 0 (sheetAnswer sheet) ≡ sets area written (answersFrom state (records (drop place sheet)))) × (length area ≡ length area₀)
+
+abbrev μ-loop : tie.MeasureT-loop
+μ-loop sheet area₀ place₀ written₀ state₀ area place written state = length sheet - place
+
+starting-state-requires : tie.Need-starting-state-requires Inv-loop μ-loop
+starting-state-requires c κs = search needs
+
+loop-holds : tie.Need-loop-holds Inv-loop μ-loop
+loop-holds c =
+    let z = c .before .before .before in
+    let s = z .args .sheet .now in
+    let e = c .starting-state .ensures in (
+      omega arith,
+      accepted-sheet s (z .pre .0) .1,
+      rw e (omega (arith, z .pre .1)),
+      ap (λ (st : State). sets (z .args .area .now) 0 (answersFrom st (records s))) (sym e),
+      refl,
+    )
+
+record-at-requires : tie.Need-record-at-requires Inv-loop μ-loop
+record-at-requires c κs =
+    let l = c .before in
+    let s = l .before .before .before .before .args .sheet .now in
+    (c .loop-test .taken, whole-record s (l .loop .place) (c .loop-test .taken) (l .loop .inv .1) .0)
+
+reply-to-requires : tie.Need-reply-to-requires Inv-loop μ-loop
+reply-to-requires c κs = search needs
+
+-- what remains before a record: its reply, and what remains after it
+rest-length : (c : tie.After-reply-to Inv-loop μ-loop)
+    → let r = c .before in
+    let l = r .before .before in
+    let s = l .before .before .before .before .args .sheet .now in
+    length (answersFrom (l .loop .state) (records (drop (l .loop .place) s)))
+    ≡ length (replyBytes (replyTo (l .loop .state) (r .record-at .result))) + length (answersFrom (stateAfter (l .loop .state) (r .record-at .result)) (records (drop (nextAt s (l .loop .place)) s)))
+rest-length c =
+    let r = c .before in
+    let i = r .before in
+    let l = i .before in
+    let s = l .before .before .before .before .args .sheet .now in
+    answers-length-here s (l .loop .place) (i .loop-test .taken) (l .loop .state) (r .record-at .ensures)
+
+write-reply-requires : tie.Need-write-reply-requires Inv-loop μ-loop
+write-reply-requires c κs =
+    let p = c .before in
+    let l = p .before .before .before in
+    omega (arith, rest-length p, ap length (p .reply-to .ensures), l .loop .inv .2)
+
+reply-length-requires : tie.Need-reply-length-requires Inv-loop μ-loop
+reply-length-requires c κs = search needs
+
+add-written : tie.Need-add-written Inv-loop μ-loop
+add-written c =
+    let p = c .before .before .before .before .before in
+    let l = p .before .before .before in
+    omega (arith, rest-length p, c .reply-length .ensures, ap length (p .reply-to .ensures), l .loop .inv .2)
+
+state-after-requires : tie.Need-state-after-requires Inv-loop μ-loop
+state-after-requires c κs = search needs
+
+next-at-requires : tie.Need-next-at-requires Inv-loop μ-loop
+next-at-requires c κs = c .before .before .before .before .before .before .before .before .loop-test .taken
+
+loop-less : tie.Need-loop-less Inv-loop μ-loop
+loop-less c = omega (arith, c .next-at .ensures, c .before .before .before .before .before .before .before .before .before .loop-test .taken)
+
+loop-again : tie.Need-loop-again Inv-loop μ-loop
+loop-again c =
+    let n = c .before .before in
+    let w = n .before .before .before in
+    let p = w .before .before in
+    let r = p .before in
+    let i = r .before in
+    let l = i .before in
+    let s = l .before .before .before .before .args .sheet .now in
+    let whole = whole-record s (l .loop .place) (i .loop-test .taken) (l .loop .inv .1) in
+    let bytes = replyBytes (replyTo (l .loop .state) (r .record-at .result)) in
+    let stored = w .write-reply .ensures ∙ ap (sets (l .loop .area) (l .loop .written)) (p .reply-to .ensures) in
+    let count = n .reply-length .ensures ∙ ap length (p .reply-to .ensures) in
+    rw (c .next-at .ensures, c .before .state-after .ensures, count, stored) (
+      whole .0,
+      whole .1,
+      simp length-sets (omega (arith, rest-length p, l .loop .inv .2)),
+      l .loop .inv .3 ∙ ap (sets (l .loop .area) (l .loop .written)) (answers-here s (l .loop .place) (i .loop-test .taken) (l .loop .state) (r .record-at .ensures))
+          ∙ sets-append (l .loop .area) (l .loop .written) bytes _,
+      length-sets (l .loop .area) (l .loop .written) bytes ∙ l .loop .inv .4,
+    )
+
+same-length : tie.Need-same-length Inv-loop μ-loop
+same-length c = c .before .loop .inv .4
+
+returns : tie.Need-returns Inv-loop μ-loop
+returns c =
+    let l = c .before in
+    let s = l .before .before .before .before .args .sheet .now in
+    sym (l .loop .inv .3 ∙ ap (sets (l .loop .area) (l .loop .written)) (answers-done s (l .loop .place) (l .loop .state) (c .loop-test .left)))
+
+pub write-sheet-answer-spec : {M : Type 1} → statement M
+write-sheet-answer-spec =
+    tie.close
+    (tie.spec
+    Inv-loop
+    μ-loop
+    starting-state-requires
+    loop-holds
+    record-at-requires
+    reply-to-requires
+    write-reply-requires
+    reply-length-requires
+    add-written
+    state-after-requires
+    next-at-requires
+    loop-less
+    loop-again
+    same-length
+    returns)

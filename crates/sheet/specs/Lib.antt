@@ -1,0 +1,9 @@
+pub mod Numbers
+pub mod Kinds
+pub mod Records
+pub mod States
+pub mod Replies
+pub mod AnswerBytes
+pub mod SheetCheck
+pub mod WholeSheet
+pub mod Example

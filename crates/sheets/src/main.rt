@@ -1,0 +1,63 @@
+// Answers each sheet whose file an argument names: a line with the name, and the bytes that the program `lifgorund` would write, in hex.
+// `compare/sheets` writes the files, `args` and `stdout`; the answers there are the independent implementation's.
+use sheet::Outcome;
+use sheet::answer_sheet;
+
+const STANDARD_OUTPUT: i32 = 1;
+
+const SHEET_REFUSED: u8 = 69;
+
+fn print_byte(byte: u8) {
+    io::print_hex(STANDARD_OUTPUT, byte as u64, 2);
+}
+
+fn print_bytes(bytes: &[u8]) {
+    let mut i: usize = 0;
+    while i < bytes.len() {
+        print_byte(bytes[i]);
+        i = i + 1;
+    }
+}
+
+fn print_answer(sheet: &[u8], area: &mut [u8]) {
+    match answer_sheet(sheet, area) {
+        Outcome::Accepted(written) => {
+            print_bytes(&area[..written]);
+        }
+        Outcome::Refused(number) => {
+            print_byte(SHEET_REFUSED);
+            print_byte(number);
+        }
+    }
+}
+
+fn answer_file(file: i32) {
+    let mut sheet = [0u8; 8193];
+    let mut area = [0u8; 65536];
+    let length = io::read_full(file, &mut sheet);
+    print_answer(&sheet[..length], &mut area);
+}
+
+fn answer_argument(k: usize) {
+    let mut name = io::buffer();
+    let length = os::arg(k, &mut name);
+    let file = os::open_read(&name[..length]);
+    if file < 0 {
+        os::fail(&name[..length]);
+        return;
+    }
+    io::write_all(STANDARD_OUTPUT, &name[..length]);
+    io::write_all(STANDARD_OUTPUT, b" ");
+    answer_file(file);
+    io::write_all(STANDARD_OUTPUT, b"\n");
+    libc::close(file);
+}
+
+fn main() {
+    let count = os::arg_count();
+    let mut k: usize = 1;
+    while k < count {
+        answer_argument(k);
+        k = k + 1;
+    }
+}
