@@ -85,11 +85,11 @@ fn ends_of_fields(cases: &mut Vec<(String, Vec<u8>)>) {
     let fields: [(&str, &str, usize, i32, i32); 12] = [
         ("distance", ENCOUNTER, 1, -12_000_000, 12_000_000),
         ("height", ENCOUNTER, 5, -480_000, 480_000),
-        ("closing_speed", ENCOUNTER, 9, 0, 200_000),
+        ("closing_speed", ENCOUNTER, 9, 0, 150_000),
         ("speed", ENCOUNTER, 13, -10_000, 10_000),
         ("intruder_speed", ENCOUNTER, 17, -10_000, 10_000),
-        ("radius", PUCK, 1, 1, 120_000),
-        ("half_height", PUCK, 5, 1, 60_000),
+        ("radius", PUCK, 1, 0, 60_000),
+        ("half_height", PUCK, 5, 1, 12_000),
         ("delay_acceleration", DELAY_ACCELERATION, 1, 0, 2_000),
         ("target", FREE, 3, -10_000, 10_000),
         ("upper_target", FREE, 7, 0, 0),
@@ -134,7 +134,7 @@ fn ends_of_fields(cases: &mut Vec<(String, Vec<u8>)>) {
 /// Settings that change between questions, and refused ones that must not.
 fn settings_between(cases: &mut Vec<(String, Vec<u8>)>) {
     let other = hex("02 00002710 000003E8 03 00000000");
-    let refused = hex("02 00000000 00001770 02 00007530 0000EA61 03 FFFFFFFF 03 000007D1");
+    let refused = hex("02 FFFFFFFF 00001770 02 00007530 00002EE1 03 FFFFFFFF 03 000007D1");
     let ask = joined(&[hex(FREE), hex(CODED)]);
     let kept = joined(&[
         hex(ENCOUNTER),

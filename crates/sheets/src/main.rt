@@ -1,5 +1,5 @@
 // Answers each sheet whose file an argument names: a line with the name, and the bytes that the program `lifgorund` would write, in hex.
-// `compare/sheets` writes the files, `args` and `stdout`; the answers there are the independent implementation's.
+// `cargo run --profile checked --bin sheets ../crates/sheets`, run in `compare/`, writes the files, `args` and `stdout`: the answers are the independent implementation's.
 use sheet::Outcome;
 use sheet::answer_sheet;
 
