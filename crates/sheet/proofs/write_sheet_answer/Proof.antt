@@ -41,15 +41,6 @@ loop-holds c =
       refl,
     )
 
-record-at-requires : tie.Need-record-at-requires Inv-loop μ-loop
-record-at-requires c κs =
-    let l = c .before in
-    let s = l .before .before .before .before .args .sheet .now in
-    (c .loop-test .taken, whole-record s (l .loop .place) (c .loop-test .taken) (l .loop .inv .1) .0)
-
-reply-to-requires : tie.Need-reply-to-requires Inv-loop μ-loop
-reply-to-requires c κs = search needs
-
 -- what remains before a record: its reply, and what remains after it
 rest-length : (c : tie.After-reply-to Inv-loop μ-loop)
     → let r = c .before in
@@ -63,6 +54,15 @@ rest-length c =
     let l = i .before in
     let s = l .before .before .before .before .args .sheet .now in
     answers-length-here s (l .loop .place) (i .loop-test .taken) (l .loop .state) (r .record-at .ensures)
+
+record-at-requires : tie.Need-record-at-requires Inv-loop μ-loop
+record-at-requires c κs =
+    let l = c .before in
+    let s = l .before .before .before .before .args .sheet .now in
+    (c .loop-test .taken, whole-record s (l .loop .place) (c .loop-test .taken) (l .loop .inv .1) .0)
+
+reply-to-requires : tie.Need-reply-to-requires Inv-loop μ-loop
+reply-to-requires c κs = search needs
 
 write-reply-requires : tie.Need-write-reply-requires Inv-loop μ-loop
 write-reply-requires c κs =
