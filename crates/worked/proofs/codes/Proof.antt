@@ -3,9 +3,6 @@ use borrow.Author.Needs.{needs}
 use Prim.Native.Nat.{_-_}
 use Rattle.worked.proofs.codes.Statement.{statement}
 use Rattle.worked.proofs.codes.Tie as tie
-use Rattle.worked.proofs.codes.Reads as reads
-use Rattle.worked.proofs.codes.Lts as lts
-use Rattle.worked.proofs.ask_coded.Reads as ask-coded-reads
 
 abbrev Inv-loop : tie.InvT-loop
 Inv-loop encounter code₀ code = Unit {0}
@@ -13,27 +10,21 @@ Inv-loop encounter code₀ code = Unit {0}
 abbrev μ-loop : tie.MeasureT-loop
 μ-loop encounter code₀ code = 20 - code
 
--- src/main.rt:452:5
 loop-holds : tie.Need-loop-holds Inv-loop μ-loop
 loop-holds c = search needs
 
--- src/main.rt:453:9
 ask-coded-requires : tie.Need-ask-coded-requires Inv-loop μ-loop
 ask-coded-requires c κs = search needs
 
--- src/main.rt:452:9
 add-code : tie.Need-add-code Inv-loop μ-loop
 add-code c = search needs
 
--- src/main.rt:452:5
 loop-less : tie.Need-loop-less Inv-loop μ-loop
 loop-less c = search needs
 
--- src/main.rt:452:5
 loop-again : tie.Need-loop-again Inv-loop μ-loop
 loop-again c = search needs
 
--- src/main.rt:451:1
 returns : tie.Need-returns Inv-loop μ-loop
 returns c = search needs
 
@@ -41,5 +32,3 @@ pub codes-spec : {M : Type 1} → statement M
 codes-spec =
     tie.close
     (tie.spec Inv-loop μ-loop loop-holds ask-coded-requires add-code loop-less loop-again returns)
-
--- x

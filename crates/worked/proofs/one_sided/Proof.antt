@@ -4,9 +4,6 @@ use Prim.Native.Nat.{_-_}
 use lib.ListN.{length}
 use Rattle.worked.proofs.one_sided.Statement.{statement}
 use Rattle.worked.proofs.one_sided.Tie as tie
-use Rattle.worked.proofs.one_sided.Reads as reads
-use Rattle.worked.proofs.one_sided.Lts as lts
-use Rattle.worked.proofs.ask_one_sided.Reads as ask-one-sided-reads
 
 abbrev Inv-loop : tie.InvT-loop
 Inv-loop settings rows i₀ i = Unit {0}
@@ -14,35 +11,27 @@ Inv-loop settings rows i₀ i = Unit {0}
 abbrev μ-loop : tie.MeasureT-loop
 μ-loop settings rows i₀ i = length rows - i
 
--- src/main.rt:436:5
 loop-holds : tie.Need-loop-holds Inv-loop μ-loop
 loop-holds c = search needs
 
--- src/main.rt:437:33
 mul-ask-one-sided : tie.Need-mul-ask-one-sided Inv-loop μ-loop
 mul-ask-one-sided c = search needs
 
--- src/main.rt:437:33
 shared-slice-copy-out-ask-one-sided : tie.Need-shared-slice-copy-out-ask-one-sided Inv-loop μ-loop
 shared-slice-copy-out-ask-one-sided c = search needs
 
--- src/main.rt:437:9
 ask-one-sided-requires : tie.Need-ask-one-sided-requires Inv-loop μ-loop
 ask-one-sided-requires c κs = search needs
 
--- src/main.rt:438:9
 add-i : tie.Need-add-i Inv-loop μ-loop
 add-i c = search needs
 
--- src/main.rt:436:5
 loop-less : tie.Need-loop-less Inv-loop μ-loop
 loop-less c = search needs
 
--- src/main.rt:436:5
 loop-again : tie.Need-loop-again Inv-loop μ-loop
 loop-again c = search needs
 
--- src/main.rt:434:1
 returns : tie.Need-returns Inv-loop μ-loop
 returns c = search needs
 
@@ -60,5 +49,3 @@ one-sided-spec =
     loop-less
     loop-again
     returns)
-
--- x

@@ -5,9 +5,6 @@ use Prim.Native.Nat.{_-_}
 use lib.ListN.{length}
 use Rattle.worked.proofs.repaired.Statement.{statement}
 use Rattle.worked.proofs.repaired.Tie as tie
-use Rattle.worked.proofs.repaired.Reads as reads
-use Rattle.worked.proofs.repaired.Lts as lts
-use Rattle.worked.proofs.ask_numbers.Reads as ask-numbers-reads
 
 abbrev Inv-loop : tie.InvT-loop
 Inv-loop bad good numbers₀ i₀ numbers i = length numbers ≡ 16
@@ -15,47 +12,36 @@ Inv-loop bad good numbers₀ i₀ numbers i = length numbers ≡ 16
 abbrev μ-loop : tie.MeasureT-loop
 μ-loop bad good numbers₀ i₀ numbers i = 16 - i
 
--- src/main.rt:501:5
 loop-holds : tie.Need-loop-holds Inv-loop μ-loop
 loop-holds c = search needs
 
--- src/main.rt:502:9
 ask-numbers-requires : tie.Need-ask-numbers-requires Inv-loop μ-loop
 ask-numbers-requires c κs = search needs
 
--- src/main.rt:503:22
 mul-numbers : tie.Need-mul-numbers Inv-loop μ-loop
 mul-numbers c = search needs
 
--- src/main.rt:503:22
 array-copy-out-numbers : tie.Need-array-copy-out-numbers Inv-loop μ-loop
 array-copy-out-numbers c = search needs
 
--- src/main.rt:503:9
 mul-numbers-2 : tie.Need-mul-numbers-2 Inv-loop μ-loop
 mul-numbers-2 c = search needs
 
--- src/main.rt:503:9
 array-set-from-numbers : tie.Need-array-set-from-numbers Inv-loop μ-loop
 array-set-from-numbers c = search needs
 
--- src/main.rt:504:9
 add-i : tie.Need-add-i Inv-loop μ-loop
 add-i c = search needs
 
--- src/main.rt:501:5
 loop-less : tie.Need-loop-less Inv-loop μ-loop
 loop-less c = search needs
 
--- src/main.rt:501:5
 loop-again : tie.Need-loop-again Inv-loop μ-loop
 loop-again c = search needs
 
--- src/main.rt:506:5
 ask-numbers-requires-2 : tie.Need-ask-numbers-requires-2 Inv-loop μ-loop
 ask-numbers-requires-2 c κs = search needs
 
--- src/main.rt:498:1
 returns : tie.Need-returns Inv-loop μ-loop
 returns c = search needs
 
@@ -76,5 +62,3 @@ repaired-spec =
     loop-again
     ask-numbers-requires-2
     returns)
-
--- x
