@@ -1,4 +1,8 @@
 // The program: a question sheet from standard input, its answer to standard output.
+ghost use mathlib.Core.Path.{_≡_};
+ghost use Rattle.sheet.specs.declared.Outcome.the-variants.{Refused};
+ghost use Rattle.sheet.specs.AnswerBytes.{recordBytes};
+ghost use Rattle.sheet.specs.WholeSheet.{outcomeRecord};
 use sheet::Outcome;
 use sheet::answer_sheet;
 
@@ -8,12 +12,16 @@ const SHEET_ROOM: usize = 8193;
 // More than any sheet's answer fills.
 const AREA_ROOM: usize = 65536;
 
-// The record of a sheet that is refused as a whole.
-const SHEET_REFUSED: u8 = 69;
-
 const STANDARD_INPUT: i32 = 0;
 
 const STANDARD_OUTPUT: i32 = 1;
+
+// "For a refused sheet it writes kind 69 and the number in one byte."
+fn refusal_record(number: u8) -> [u8; 2]
+    ensures { λ r. ⌜ r ≡ recordBytes (outcomeRecord (Refused number)) ⌝ }
+{
+    [69, number]
+}
 
 fn write_answer(sheet: &[u8], area: &mut [u8]) {
     match answer_sheet(sheet, area) {
@@ -21,7 +29,7 @@ fn write_answer(sheet: &[u8], area: &mut [u8]) {
             io::write_all(STANDARD_OUTPUT, &area[..written]);
         }
         Outcome::Refused(number) => {
-            let refusal = [SHEET_REFUSED, number];
+            let refusal = refusal_record(number);
             io::write_all(STANDARD_OUTPUT, &refusal);
         }
     }

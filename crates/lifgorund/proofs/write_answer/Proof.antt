@@ -37,6 +37,9 @@ write-all-requires c κs = search needs
 enum-known-number : tie.Need-enum-known-number
 enum-known-number c = search needs
 
+refusal-record-requires : tie.Need-refusal-record-requires
+refusal-record-requires c κs = search needs
+
 slice-aggregate-write-all-2 : tie.Need-slice-aggregate-write-all-2
 slice-aggregate-write-all-2 c = search needs
 
@@ -65,6 +68,7 @@ write-answer-spec =
     slice-aggregate-write-all
     write-all-requires
     enum-known-number
+    refusal-record-requires
     slice-aggregate-write-all-2
     write-all-requires-2
     same-length
