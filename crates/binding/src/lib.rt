@@ -8,11 +8,11 @@ ghost use Rattle.binding.specs.Flat.{withTimes, flatVerdict, flatAnswer,
 use instant::Time;
 use judge::Answer;
 use judge::ClearSides;
-use judge::Encounter;
-use judge::Question;
-use judge::Settings;
 use judge::Verdict;
 use judge::judge;
+use question::Encounter;
+use question::Question;
+use question::Settings;
 use sheet::Outcome;
 use sheet::answer_sheet;
 

@@ -1,14 +1,13 @@
--- An accepted question has the sizes that the paths and the code ask for: the tie from the ordered refusals to every bound. Assumes nothing.
+-- An accepted question has the sizes that the paths and the code ask for. Assumes nothing.
 use mathlib.Core.Path.{_≡_, refl, subst}
-use mathlib.Core.Bool.{Bool, true, false, not, cond, _&&_, _||_}
-use mathlib.Core.List.{List, [], _∷_}
-use mathlib.Core.Logic.{_⊎_, inl, inr, ⊎-elim}
+use mathlib.Core.Bool.{Bool, true, false, cond, _&&_, _||_}
+use mathlib.Core.List.{[], _∷_}
+use mathlib.Core.Logic.{⊎-elim}
 use Prim.Native.Nat.{ℕ, _≤_}
-use native.Mathlib.Omega.{arith}
 use lib.Dec.{T}
-use lib.Ieee.Fits.{and-i, and-l, and-r}
+use lib.Ieee.Fits.{and-l, and-r}
 use lib.IntN.{ℤ, pos, negℤ, _-ℤ_}
-use lib.Signed.{_≤ℤ_, leZ, leZ-yes}
+use lib.Signed.{_≤ℤ_, leZ}
 use Rattle.integers.specs.Extremes.{max0}
 use Rattle.integers.proofs.Quotation.{quote}
 use Rattle.integers.proofs.Certificates.{by≤, gap≤, _⊞_, nat≤}
@@ -18,41 +17,14 @@ use Rattle.advisory.specs.declared.Sense.the-variants.{Climb, Descend}
 use Rattle.advisory.specs.Sign.{sensed}
 use Rattle.path.specs.declared.Limit.the-variants.{Unlimited, Upto}
 use Rattle.path.specs.Sizes.{LimitSize, Sizes, UpperSizes}
-use Rattle.judge.specs.declared.Encounter.{Encounter}
-use Rattle.judge.specs.declared.Settings.{Settings}
-use Rattle.judge.specs.declared.Question.{Question}
-use Rattle.judge.specs.declared.Checked.{Checked}
-use Rattle.judge.specs.Limits.{within, distanceWithin, heightWithin, closingSpeedWithin, speedWithin, radiusWithin, halfHeightWithin, strengthWithin, delayWithin, limitWithin}
-use Rattle.judge.specs.Refusals.{isNumber, senseOf, twoSided, noLimit, sidesKnown, lowerWithin, upperZero, upperRanges, strengthsOrdered, targetsOrdered, upperWithin, noDelay, limitAllowed, Check, firstRefusal, plainChecks, refusal}
+use Rattle.question.specs.declared.Encounter.{Encounter}
+use Rattle.question.specs.declared.Settings.{Settings}
+use Rattle.question.specs.declared.Question.{Question}
+use Rattle.question.specs.declared.Checked.{Checked}
+use Rattle.question.specs.Limits.{speedWithin, strengthWithin, limitWithin}
+use Rattle.question.specs.Refusals.{isNumber, senseOf, twoSided, noLimit, upperZero, upperRanges, strengthsOrdered, targetsOrdered, upperWithin, refusal}
+use Rattle.question.proofs.WithinLimits.{Between, between, or-else, within-limits}
 use Rattle.judge.specs.Sensed.{limitOf, sensedQuestion}
-
--- ---- accepted: every test is passed
-abbrev pub AllPass : List Check → Type 0
-AllPass [] = Unit {0}
-AllPass (c ∷ l) = T (c .passes) × AllPass l
-
-pub all-pass : (l : List Check) → firstRefusal l ≡ Checked.Accepted → AllPass l
-all-pass [] e = tt
-all-pass (c ∷ l) e = go (c .passes) (all-pass l) e
-  where
-    go : (b : Bool) → (firstRefusal l ≡ Checked.Accepted → AllPass l) → cond b (firstRefusal l) (Checked.Refused (c .number)) ≡ Checked.Accepted → T b × AllPass l
-    go true f h = (tt, f h)
-    go false f h = absurd (let z : _≡_ {A = ℕ} 0 1 = cc in omega arith)
-
--- ---- a number within limits
-pub record Between (lo hi x : ℤ) : Type 0 where
-  pub from : lo ≤ℤ x
-  pub to : x ≤ℤ hi
-
-pub between : (lo hi x : ℤ) → T (within lo hi x) → Between lo hi x
-between lo hi x t = record { from = leZ-yes (and-l (leZ lo x) (leZ x hi) t); to = leZ-yes (and-r (leZ lo x) (leZ x hi) t) }
-
-pub within-in : {lo hi x : ℤ} → lo ≤ℤ x → x ≤ℤ hi → T (within lo hi x)
-within-in {lo} {hi} {x} h k = and-i (leZ lo x) (leZ x hi) (h .le) (k .le)
-
-pub or-else : (a b : Bool) → T (a || b) → T a ⊎ T b
-or-else true b t = inl tt
-or-else false b t = inr t
 
 -- w × z is as large as z
 pub sensed-between : (w : Sense) (B : ℕ) (z : ℤ) → Between (negℤ (pos B)) (pos B) z → Between (negℤ (pos B)) (pos B) (sensed w z)
@@ -90,87 +62,11 @@ limit-size l t = go (leZ noLimit l) refl
         (λ h. absurd (subst T e (between noLimit noLimit l h .from .le)))
         (or-else (limitWithin l) (isNumber noLimit l) t)
 
--- ---- the fields of an accepted question, each within its limits
-pub record WithinLimits (x : Encounter) (y : Settings) (z : Question) : Type 0 where
-  pub distance : Between (negℤ (pos 12000000)) (pos 12000000) (x .distance)
-  pub height : Between (negℤ (pos 480000)) (pos 480000) (x .height)
-  pub closing : Between (pos 0) (pos 150000) (x .«closing_speed»)
-  pub speed : Between (negℤ (pos 10000)) (pos 10000) (x .speed)
-  pub intruder : Between (negℤ (pos 10000)) (pos 10000) (x .«intruder_speed»)
-  pub radius : Between (pos 0) (pos 60000) (y .radius)
-  pub half : Between (pos 1) (pos 12000) (y .«half_height»)
-  pub acceleration : Between (pos 0) (pos 2000) (y .«delay_acceleration»)
-  pub known : T (sidesKnown z)
-  pub target : Between (negℤ (pos 10000)) (pos 10000) (z .target)
-  pub strength : Between (pos 1) (pos 2000) (z .strength)
-  pub upper : T (cond (twoSided z) (upperWithin z) (upperZero z))
-  pub delay : Between (pos 0) (pos 60) (z .delay)
-  pub limit : T (limitAllowed z)
-
 module _ (x : Encounter) (y : Settings) (z : Question) (e : refusal x y z ≡ Checked.Accepted) where
-  passed : AllPass (plainChecks x y z)
-  unfolding refusal
-  passed = all-pass (plainChecks x y z) e
-
-  pub within-limits : WithinLimits x y z
-  within-limits =
-      let r = distanceWithin (x .distance) in
-      let h = heightWithin (x .height) in
-      let c = closingSpeedWithin (x .«closing_speed») in
-      let v = speedWithin (x .speed) in
-      let i = speedWithin (x .«intruder_speed») in
-      let t₁ = passed .0 in
-      let t₂ = and-l (((r && h) && c) && v) i t₁ in
-      let t₃ = and-l ((r && h) && c) v t₂ in
-      let t₄ = and-l (r && h) c t₃ in
-      let t₅ = passed .1 .1 .1 .1 .0 in
-      let t₆ = passed .1 .1 .1 .1 .1 .0 in
-      let times = not (twoSided z) || noDelay z in
-      let limits = limitAllowed z in
-      record {
-        distance = between (negℤ (pos 12000000)) (pos 12000000) (x .distance) (and-l r h t₄);
-        height = between (negℤ (pos 480000)) (pos 480000) (x .height) (and-r r h t₄);
-        closing = between (pos 0) (pos 150000) (x .«closing_speed») (and-r (r && h) c t₃);
-        speed = between (negℤ (pos 10000)) (pos 10000) (x .speed) (and-r ((r && h) && c) v t₂);
-        intruder = between (negℤ (pos 10000)) (pos 10000) (x .«intruder_speed») (and-r (((r && h) && c) && v) i t₁);
-        radius = between (pos 0) (pos 60000) (y .radius) (and-l (radiusWithin (y .radius)) (halfHeightWithin (y .«half_height»)) (passed .1 .0));
-        half = between (pos 1) (pos 12000) (y .«half_height») (and-r (radiusWithin (y .radius)) (halfHeightWithin (y .«half_height»)) (passed .1 .0));
-        acceleration = between (pos 0) (pos 2000) (y .«delay_acceleration») (passed .1 .1 .0);
-        known = passed .1 .1 .1 .0;
-        target = between (negℤ (pos 10000)) (pos 10000) (z .target) (and-l (speedWithin (z .target)) (strengthWithin (z .strength)) (and-l (lowerWithin z) (cond (twoSided z) (upperWithin z) (upperZero z)) t₅));
-        strength = between (pos 1) (pos 2000) (z .strength) (and-r (speedWithin (z .target)) (strengthWithin (z .strength)) (and-l (lowerWithin z) (cond (twoSided z) (upperWithin z) (upperZero z)) t₅));
-        upper = and-r (lowerWithin z) (cond (twoSided z) (upperWithin z) (upperZero z)) t₅;
-        delay = between (pos 0) (pos 60) (z .delay) (and-l (delayWithin (z .delay)) times (and-l (delayWithin (z .delay) && times) limits t₆));
-        limit = and-r (delayWithin (z .delay) && times) limits t₆;
-      }
-
-  -- the limit field, within its limits or 65,535
-  pub limit-between : Between (pos 0) (pos 65535) (z .limit)
-  limit-between = ⊎-elim
-      (λ h. let b = between (pos 0) (pos 600) (z .limit) h in record { from = b .from; to = ≤ℤ-trans (b .to) (leZ-yes tt) })
-      (λ h. let b = between noLimit noLimit (z .limit) h in record { from = ≤ℤ-trans (leZ-yes tt) (b .from); to = b .to })
-      (or-else (limitWithin (z .limit)) (isNumber noLimit (z .limit)) (within-limits .limit))
-
-  -- the upper fields, within their limits or 0
-  pub upper-between : Between (negℤ (pos 10000)) (pos 10000) (z .«upper_target») × Between (pos 0) (pos 2000) (z .«upper_strength»)
-  upper-between = go (twoSided z) (within-limits .upper)
-    where
-      widen : (v : ℤ) (B : ℕ) → Between (pos 0) (pos 0) v → Between (negℤ (pos B)) (pos B) v
-      widen v B h = record { from = by≤ (B ∷ []) (v ∷ []) (gap≤ (h .from)) (λ v. search quote depth 20) tt; to = by≤ (B ∷ []) (v ∷ []) (gap≤ (h .to)) (λ v. search quote depth 20) tt }
-
-      go : (b : Bool) → T (cond b (upperWithin z) (upperZero z)) → Between (negℤ (pos 10000)) (pos 10000) (z .«upper_target») × Between (pos 0) (pos 2000) (z .«upper_strength»)
-      go true t =
-          let r = and-l (upperRanges z) (strengthsOrdered z && targetsOrdered z) t in
-          let b = between (pos 1) (pos 2000) (z .«upper_strength») (and-r (speedWithin (z .«upper_target»)) (strengthWithin (z .«upper_strength»)) r) in
-          (between (negℤ (pos 10000)) (pos 10000) (z .«upper_target») (and-l (speedWithin (z .«upper_target»)) (strengthWithin (z .«upper_strength»)) r), record { from = ≤ℤ-trans (leZ-yes tt) (b .from); to = b .to })
-      go false t =
-          let b = between (pos 0) (pos 0) (z .«upper_strength») (and-r (isNumber (pos 0) (z .«upper_target»)) (isNumber (pos 0) (z .«upper_strength»)) t) in
-          (widen (z .«upper_target») 10000 (between (pos 0) (pos 0) (z .«upper_target») (and-l (isNumber (pos 0) (z .«upper_target»)) (isNumber (pos 0) (z .«upper_strength»)) t)), record { from = b .from; to = widen (z .«upper_strength») 2000 b .to })
-
   pub accepted-sizes : Sizes (sensedQuestion x y z)
   unfolding sensedQuestion
   accepted-sizes =
-      let l = within-limits in
+      let l = within-limits x y z e in
       let w = senseOf z in
       let wh = sensed-between w 480000 (x .height) (l .height) in
       let u = sensed-between w 20000 (x .speed -ℤ x .«intruder_speed») (speed-between (x .speed) (x .«intruder_speed») (l .speed) (l .intruder)) in
@@ -197,7 +93,7 @@ module _ (x : Encounter) (y : Settings) (z : Question) (e : refusal x y z ≡ Ch
   pub accepted-upper-sizes : twoSided z ≡ true → UpperSizes (sensedQuestion x y z)
   unfolding sensedQuestion
   accepted-upper-sizes two =
-      let l = within-limits in
+      let l = within-limits x y z e in
       let w = senseOf z in
       let ranges = upperRanges z in
       let orders = strengthsOrdered z && targetsOrdered z in

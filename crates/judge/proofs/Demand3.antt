@@ -15,15 +15,15 @@ use Rattle.path.specs.Sizes.{Sized}
 use Rattle.shown.specs.TimeShown.{timeShown}
 use Rattle.shown.proofs.RulePicks.{rule-picks, never-none, shown-conflict}
 use Rattle.shown.proofs.InstantsInReach.{picked-sized}
-use Rattle.judge.specs.declared.Encounter.{Encounter}
-use Rattle.judge.specs.declared.Settings.{Settings}
-use Rattle.judge.specs.declared.Question.{Question}
-use Rattle.judge.specs.declared.Checked.{Checked}
+use Rattle.question.specs.declared.Encounter.{Encounter}
+use Rattle.question.specs.declared.Settings.{Settings}
+use Rattle.question.specs.declared.Question.{Question}
+use Rattle.question.specs.declared.Checked.{Checked}
 use Rattle.judge.specs.declared.ClearSides.{ClearSides}
 use Rattle.judge.specs.declared.Verdict.{Verdict}
 use Rattle.judge.specs.declared.Verdict.the-variants.{Clear, Conflict, Conflicts}
 use Rattle.judge.specs.declared.Answer.{Answer}
-use Rattle.judge.specs.Refusals.{twoSided, refusal}
+use Rattle.question.specs.Refusals.{twoSided, refusal}
 use Rattle.judge.specs.Sensed.{sensedQuestion}
 use Rattle.judge.specs.Verdicts.{timeOf, oneSidedVerdict, twoSidedVerdict, verdict}
 use Rattle.judge.specs.Answers.{checkedAnswer, answer, answerRecord}

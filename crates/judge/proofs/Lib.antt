@@ -1,5 +1,3 @@
-pub mod Branches
-pub mod SensedOrder
 pub mod ExamplesHold
 pub mod AcceptedSizes
 pub mod PlainFields

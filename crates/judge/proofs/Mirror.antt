@@ -16,20 +16,20 @@ use Rattle.advisory.specs.declared.Sense.{Sense}
 use Rattle.advisory.specs.declared.Sense.the-variants.{Climb, Descend}
 use Rattle.advisory.specs.Sign.{sensed}
 use Rattle.path.specs.declared.SensedQuestion.{SensedQuestion}
-use Rattle.judge.specs.declared.Encounter.{Encounter}
-use Rattle.judge.specs.declared.Settings.{Settings}
-use Rattle.judge.specs.declared.Question.{Question}
-use Rattle.judge.specs.declared.Checked.{Checked}
+use Rattle.question.specs.declared.Encounter.{Encounter}
+use Rattle.question.specs.declared.Settings.{Settings}
+use Rattle.question.specs.declared.Question.{Question}
+use Rattle.question.specs.declared.Checked.{Checked}
 use Rattle.judge.specs.declared.Answer.{Answer}
-use Rattle.judge.specs.Limits.{within, distanceWithin, heightWithin, closingSpeedWithin, speedWithin, strengthWithin}
-use Rattle.judge.specs.Refusals.{isNumber, senseOf, noLimit, twoSided, lowerWithin, upperZero, upperRanges, strengthsOrdered, targetsOrdered, upperWithin, Check, firstRefusal, plainChecks, refusal}
+use Rattle.question.specs.Limits.{within, distanceWithin, heightWithin, closingSpeedWithin, speedWithin, strengthWithin}
+use Rattle.question.specs.Refusals.{isNumber, senseOf, noLimit, twoSided, lowerWithin, upperZero, upperRanges, strengthsOrdered, targetsOrdered, upperWithin, Check, firstRefusal, plainChecks, refusal}
 use Rattle.judge.specs.Sensed.{sensedQuestion}
 use Rattle.judge.specs.Verdicts.{verdict}
 use Rattle.judge.specs.Answers.{answer}
-use Rattle.judge.specs.StartingSettings.{startingSettings}
+use Rattle.question.specs.StartingSettings.{startingSettings}
 use Rattle.judge.specs.Examples.{meet, descend, answerTo}
 use Rattle.judge.specs.Mirror.{mirrored, turned}
-use Rattle.judge.proofs.AcceptedSizes.{AllPass, all-pass, between, within-in, or-else}
+use Rattle.question.proofs.WithinLimits.{AllPass, all-pass, between, within-in, or-else}
 use Rattle.judge.proofs.Demand3.{judged}
 
 -- ---- the senses

@@ -9,12 +9,12 @@ use Rattle.path.specs.declared.Side.{Side}
 use Rattle.path.specs.declared.Side.the-variants.{Lower, Upper}
 use Rattle.path.specs.Conflict.{ConflictTime, ConflictExists}
 use Rattle.shown.specs.TimeRule.{Picks}
-use Rattle.judge.specs.declared.Question.{Question}
+use Rattle.question.specs.declared.Question.{Question}
 use Rattle.judge.specs.declared.ClearSides.{ClearSides}
 use Rattle.judge.specs.declared.Verdict.{Verdict}
 use Rattle.judge.specs.declared.Verdict.the-variants.{Clear, Conflict, Conflicts}
 use Rattle.judge.specs.declared.Answer.{Answer}
-use Rattle.judge.specs.Refusals.{twoSided}
+use Rattle.question.specs.Refusals.{twoSided}
 
 -- A time shown on a side: it is a conflict time there, and so in the window; it is the one that the time rule picks; it stands in lowest terms, and its
 -- three numbers are below 2³².

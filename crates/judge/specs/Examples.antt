@@ -3,13 +3,13 @@ use mathlib.Core.List.{List, [], _∷_}
 use Prim.Native.Nat.{ℕ}
 use Prim.Native.String.{String}
 use lib.IntN.{ℤ, pos, negℤ}
-use Rattle.judge.specs.declared.Encounter.{Encounter}
-use Rattle.judge.specs.declared.Settings.{Settings}
-use Rattle.judge.specs.declared.CodedQuestion.{CodedQuestion}
+use Rattle.question.specs.declared.Encounter.{Encounter}
+use Rattle.question.specs.declared.Settings.{Settings}
+use Rattle.question.specs.declared.CodedQuestion.{CodedQuestion}
 use Rattle.judge.specs.declared.Answer.{Answer}
-use Rattle.judge.specs.Refusals.{noLimit}
-use Rattle.judge.specs.StartingSettings.{startingSettings}
-use Rattle.judge.specs.Coded.{codedQuestion}
+use Rattle.question.specs.Refusals.{noLimit}
+use Rattle.question.specs.StartingSettings.{startingSettings}
+use Rattle.question.specs.Coded.{codedQuestion}
 use Rattle.judge.specs.Answers.{answer, AnswerRecord, answers, answerRecord}
 
 -- an example: its name, its encounter, what is asked there, and the answer

@@ -1,8 +1,4 @@
-pub mod StartingSettings
-pub mod Limits
-pub mod Refusals
 pub mod Sensed
-pub mod Coded
 pub mod Verdicts
 pub mod Answers
 pub mod Demand3

@@ -1,7 +1,7 @@
 -- "M3: descend to −1,500, else as M1": an encounter and a question mirrored, with the sense turned and all heights and speeds negated.
 use lib.IntN.{pos, negℤ, _-ℤ_}
-use Rattle.judge.specs.declared.Encounter.{Encounter}
-use Rattle.judge.specs.declared.Question.{Question}
+use Rattle.question.specs.declared.Encounter.{Encounter}
+use Rattle.question.specs.declared.Question.{Question}
 
 abbrev pub mirrored : Encounter → Encounter
 mirrored x = record { distance = x .distance; height = negℤ (x .height); «closing_speed» = x .«closing_speed»; speed = negℤ (x .speed); «intruder_speed» = negℤ (x .«intruder_speed») }

@@ -7,11 +7,11 @@ use Rattle.advisory.specs.Sign.{sensed}
 use Rattle.path.specs.declared.Limit.{Limit}
 use Rattle.path.specs.declared.Limit.the-variants.{Unlimited, Upto}
 use Rattle.path.specs.declared.SensedQuestion.{SensedQuestion}
-use Rattle.judge.specs.declared.Encounter.{Encounter}
-use Rattle.judge.specs.declared.Settings.{Settings}
-use Rattle.judge.specs.declared.Question.{Question}
+use Rattle.question.specs.declared.Encounter.{Encounter}
+use Rattle.question.specs.declared.Settings.{Settings}
+use Rattle.question.specs.declared.Question.{Question}
 use Rattle.judge.specs.declared.Motion.{Motion}
-use Rattle.judge.specs.Refusals.{senseOf, noLimit}
+use Rattle.question.specs.Refusals.{senseOf, noLimit}
 
 -- "Limit 65,535 means none."
 abbrev pub limitOf : ℤ → Limit

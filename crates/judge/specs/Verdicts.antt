@@ -9,11 +9,11 @@ use Rattle.instant.specs.Lowest.{lowest}
 use Rattle.path.specs.declared.SensedQuestion.{SensedQuestion}
 use Rattle.path.specs.declared.Side.the-variants.{Lower, Upper}
 use Rattle.shown.specs.TimeShown.{timeShown}
-use Rattle.judge.specs.declared.Question.{Question}
+use Rattle.question.specs.declared.Question.{Question}
 use Rattle.judge.specs.declared.ClearSides.{ClearSides}
 use Rattle.judge.specs.declared.Verdict.{Verdict}
 use Rattle.judge.specs.declared.Verdict.the-variants.{Clear, Conflict, Conflicts}
-use Rattle.judge.specs.Refusals.{twoSided}
+use Rattle.question.specs.Refusals.{twoSided}
 
 -- "whole seconds, remainder and divisor", in lowest terms
 abbrev pub timeOf : Instant → Time

@@ -8,3 +8,4 @@ pub mod Profile
 pub mod SideProfiles
 pub mod Decisions
 pub mod WholeSeconds
+pub mod Risen

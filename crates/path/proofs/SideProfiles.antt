@@ -99,6 +99,13 @@ lower-shape s pa M pM f =
       tail = λ h. r .tail (c .hilly h);
     }
 
+pub lower-scale : (s : SensedQuestion) (n m x : ℕ) → lowerPath s (n * x) (m * x) ≡ pos x *ℤ pos x *ℤ lowerPath s n m
+lower-scale s = continued-scale (s .strength) (delayHeight (s .«delay_acceleration») (s .speed)) (s .delay) 1 (adviceGain (s .strength) (s .target) (u-d s)) (λ m. gain-zero (s .strength) m (s .target) (u-d s))
+    (λ n m x. delay-scale (s .«delay_acceleration») n m x (s .speed)) (λ n m x. gain-scale (s .strength) n m x (s .target) (u-d s))
+
+pub lower-edge-scale : (s : SensedQuestion) (m x : ℕ) → lowerEdge s (m * x) ≡ pos x *ℤ pos x *ℤ lowerEdge s m
+lower-edge-scale s m x = ring (s .strength ∷ m ∷ x ∷ s .«half_height» ∷ []) (s .level ∷ []) (λ v. search quote depth 20) tt
+
 turning-divisor : (q : ℤ) (a d : ℕ) (x : ℤ) (t : Instant) → 0 < a → Among t (listed (turningInstant q a d x)) → 0 < t .m
 turning-divisor (pos q) a d x t h i = among-one (λ y. 0 < y .m) (d * a + max0 (negℤ x) ÷ a) t h i
 turning-divisor (negsuc q) a d x t h i = absurd i
@@ -145,9 +152,8 @@ profile Lower s z = record {
   between-in = between-window s;
   height = lowerPath s;
   edge = lowerEdge s;
-  height-scale = continued-scale (s .strength) (delayHeight (s .«delay_acceleration») (s .speed)) (s .delay) 1 (adviceGain (s .strength) (s .target) (u-d s)) (λ m. gain-zero (s .strength) m (s .target) (u-d s))
-      (λ n m x. delay-scale (s .«delay_acceleration») n m x (s .speed)) (λ n m x. gain-scale (s .strength) n m x (s .target) (u-d s));
-  edge-scale = λ m x. ring (s .strength ∷ m ∷ x ∷ s .«half_height» ∷ []) (s .level ∷ []) (λ v. search quote depth 20) tt;
+  height-scale = lower-scale s;
+  edge-scale = lower-edge-scale s;
   mids = pathInstants Lower s;
   sinks = Approaches Lower s;
   shape = lower-shape s (z .a-lo);

@@ -29,23 +29,24 @@ use Rattle.path.specs.declared.Limit.the-variants.{Unlimited}
 use Rattle.path.specs.declared.SensedQuestion.{SensedQuestion}
 use Rattle.path.specs.declared.Side.the-variants.{Lower}
 use Rattle.path.specs.Conflict.{ConflictExists}
-use Rattle.judge.specs.declared.Encounter.{Encounter}
-use Rattle.judge.specs.declared.Settings.{Settings}
-use Rattle.judge.specs.declared.Question.{Question}
-use Rattle.judge.specs.declared.Checked.{Checked}
+use Rattle.question.specs.declared.Encounter.{Encounter}
+use Rattle.question.specs.declared.Settings.{Settings}
+use Rattle.question.specs.declared.Question.{Question}
+use Rattle.question.specs.declared.Checked.{Checked}
 use Rattle.judge.specs.declared.ClearSides.{ClearSides}
 use Rattle.judge.specs.declared.Verdict.{Verdict}
 use Rattle.judge.specs.declared.Verdict.the-variants.{Clear, Conflict, Conflicts}
 use Rattle.judge.specs.declared.Answer.{Answer}
-use Rattle.judge.specs.Limits.{distanceWithin, heightWithin, closingSpeedWithin, speedWithin, strengthWithin, delayWithin}
-use Rattle.judge.specs.Refusals.{isNumber, twoSided, noLimit, encounterWithin, puckWithin, delayAccelerationWithin, sidesKnown, lowerWithin, adviceWithin, timesWithin, refusal}
+use Rattle.question.specs.Limits.{distanceWithin, heightWithin, closingSpeedWithin, speedWithin, strengthWithin, delayWithin}
+use Rattle.question.specs.Refusals.{isNumber, twoSided, noLimit, encounterWithin, puckWithin, delayAccelerationWithin, sidesKnown, lowerWithin, adviceWithin, timesWithin, refusal}
 use Rattle.judge.specs.Sensed.{limitOf, sensedQuestion}
-use Rattle.judge.specs.Coded.{senseNumber, instructed, asked, codedQuestion}
+use Rattle.question.specs.Coded.{senseNumber, instructed, asked, codedQuestion}
 use Rattle.judge.specs.Verdicts.{verdict}
 use Rattle.judge.specs.Answers.{answer, AnswerRecord, answerRecord}
 use Rattle.judge.specs.Demand3.{RightOneSided}
-use Rattle.judge.proofs.AcceptedSizes.{Between, between, within-in, accepted-sizes, within-limits}
-use Rattle.judge.proofs.Branches.{picks-yes}
+use Rattle.question.proofs.WithinLimits.{Between, between, within-in, within-limits}
+use Rattle.judge.proofs.AcceptedSizes.{accepted-sizes}
+use Rattle.integers.proofs.Branches.{picks-yes}
 use Rattle.judge.proofs.Demand3.{judged, one-sided}
 use Rattle.region.specs.Formula.{Formula, Says}
 use Rattle.region.specs.Figure5.{D-explᵈ}

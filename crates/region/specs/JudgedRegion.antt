@@ -9,17 +9,17 @@ use Rattle.advisory.specs.declared.Instruction.{Instruction}
 use Rattle.advisory.specs.Sign.{sensed}
 use Rattle.advisory.specs.Catalogue.{rateOf}
 use Rattle.advisory.specs.Table1.{printedAt}
-use Rattle.judge.specs.declared.Encounter.{Encounter}
-use Rattle.judge.specs.declared.Settings.{Settings}
-use Rattle.judge.specs.declared.Question.{Question}
-use Rattle.judge.specs.declared.CodedQuestion.{CodedQuestion}
-use Rattle.judge.specs.declared.Checked.{Checked}
+use Rattle.question.specs.declared.Encounter.{Encounter}
+use Rattle.question.specs.declared.Settings.{Settings}
+use Rattle.question.specs.declared.Question.{Question}
+use Rattle.question.specs.declared.CodedQuestion.{CodedQuestion}
+use Rattle.question.specs.declared.Checked.{Checked}
 use Rattle.judge.specs.declared.ClearSides.{ClearSides}
 use Rattle.judge.specs.declared.Verdict.{Verdict}
 use Rattle.judge.specs.declared.Answer.{Answer}
-use Rattle.judge.specs.Refusals.{noLimit, refusal}
+use Rattle.question.specs.Refusals.{noLimit, refusal}
 use Rattle.judge.specs.Sensed.{sensedQuestion}
-use Rattle.judge.specs.Coded.{codedQuestion}
+use Rattle.question.specs.Coded.{codedQuestion}
 use Rattle.judge.specs.Verdicts.{verdict}
 use Rattle.judge.specs.Answers.{answer, answerRecord, AnswerRecord, answers}
 use Rattle.region.specs.Formula.{Formula, Says}

@@ -4,10 +4,10 @@ use mathlib.Core.Bool.{Bool, true, false, not, _&&_, Bool-discrete}
 use mathlib.Core.List.{List, filter}
 use lib.Dec.{eqb}
 use Rattle.path.specs.declared.SensedQuestion.{SensedQuestion}
-use Rattle.judge.specs.declared.Question.{Question}
-use Rattle.judge.specs.declared.CodedQuestion.{CodedQuestion}
-use Rattle.judge.specs.StartingSettings.{startingSettings}
-use Rattle.judge.specs.Refusals.{isNumber, twoSided, noLimit, noDelay}
+use Rattle.question.specs.declared.Question.{Question}
+use Rattle.question.specs.declared.CodedQuestion.{CodedQuestion}
+use Rattle.question.specs.StartingSettings.{startingSettings}
+use Rattle.question.specs.Refusals.{isNumber, twoSided, noLimit, noDelay}
 use Rattle.judge.specs.Sensed.{sensedQuestion}
 use Rattle.judge.specs.Examples.{Example, examples}
 use Rattle.region.specs.Formula.{Formula, holds}

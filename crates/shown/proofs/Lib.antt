@@ -1,5 +1,6 @@
 pub mod FirstOf
 pub mod Steps
+pub mod OpenWindow
 pub mod RulePicks
 pub mod InstantsInReach
 pub mod CodeInstants

@@ -28,17 +28,17 @@ use Rattle.shown.specs.TimeShown.{firstOf, firstSecond, orElse, isNever,
 use Rattle.shown.specs.Search.{StartTried, Tried, Searchable, firstReached}
 
 -- ---- tests as equations
-yes : (b : Bool) → b ≡ true → T b
+pub yes : (b : Bool) → b ≡ true → T b
 yes b e = subst T (sym e) tt
 
-no : (b : Bool) → b ≡ false → ¬ T b
+pub no : (b : Bool) → b ≡ false → ¬ T b
 no b e t = subst T e t
 
-true-of : (b : Bool) → T b → b ≡ true
+pub true-of : (b : Bool) → T b → b ≡ true
 true-of true t = refl
 true-of false t = absurd t
 
-false-of : (b : Bool) → ¬ T b → b ≡ false
+pub false-of : (b : Bool) → ¬ T b → b ≡ false
 false-of true f = absurd (f tt)
 false-of false f = refl
 
@@ -68,6 +68,16 @@ module _ (side : Side) (s : SensedQuestion) (t : Instant) (l : List Instant) whe
   miss e = sym (or-miss (λ x. inConflict side s (x .n) (x .m)) t l (searched side s) e)
 
 module _ (side : Side) (s : SensedQuestion) where
+  -- in the window a conflict is the path's alone
+  pub inside : (n m : ℕ) → inWindow s n m ≡ true → notBeyond side s n m ≡ inConflict side s n m
+  unfolding inConflict
+  inside n m w = ap (λ (b : Bool). b && notBeyond side s n m) (sym w)
+
+  -- and outside it there is none
+  pub outside-clear : (n m : ℕ) → inWindow s n m ≡ false → inConflict side s n m ≡ false
+  unfolding inConflict
+  outside-clear n m w = ap (λ (b : Bool). b && notBeyond side s n m) w
+
   -- nothing left but the search
   pub only-search : searched side s ≡ shownFrom side s []
   unfolding shownFrom
@@ -87,11 +97,8 @@ module _ (side : Side) (s : SensedQuestion) where
 
   -- where the window has no end
   module _ (endless : windowEnd s ≡ Never) where
-    searches-is : searches side s ≡ (inWindow s 0 1 && approaches side s)
+    pub searches-is : searches side s ≡ (inWindow s 0 1 && approaches side s)
     searches-is = ap (λ (m : Moment). isNever m && (inWindow s 0 1 && approaches side s)) endless
-
-    pub outside : inWindow s 0 1 ≡ false → Never ≡ searched side s
-    outside e = no-search (searches-is ∙ ap (λ (b : Bool). b && approaches side s) e)
 
     pub departing : inWindow s 0 1 ≡ true → approaches side s ≡ false → Never ≡ searched side s
     departing w e = no-search (searches-is ∙ ap₂ _&&_ w e)
@@ -102,9 +109,8 @@ module _ (side : Side) (s : SensedQuestion) where
         (between-window s 0 1 j 1 (omega arith) (window-decided s 0 1 .0 (yes (inWindow s 0 1) w))
         (record { after = endless-start s endless j; before = λ t i. absurd (subst (λ (m : Moment). Among t (listed m)) endless i) })))
 
-    pub at-second : inWindow s 0 1 ≡ true → (j : ℕ) → notBeyond side s j 1 ≡ inConflict side s j 1
-    unfolding inConflict
-    at-second w j = ap (λ (b : Bool). b && notBeyond side s j 1) (sym (all-in w j))
+    at-second : inWindow s 0 1 ≡ true → (j : ℕ) → notBeyond side s j 1 ≡ inConflict side s j 1
+    at-second w j = inside j 1 (all-in w j)
 
     second-same : (test other : ℕ → Bool) → ((j : ℕ) → test j ≡ other j) → (f i : ℕ) → firstSecond test f i ≡ firstSecond other f i
     second-same test other h zero i = refl

@@ -6,10 +6,14 @@ use Rattle.path.specs.declared.SensedQuestion.{SensedQuestion}
 use Rattle.path.specs.declared.Side.{Side}
 use Rattle.path.specs.declared.Side.the-variants.{Lower, Upper}
 use Rattle.path.specs.Letters.{d}
-use Rattle.path.specs.Window.{windowStart}
+use Rattle.path.specs.Window.{inWindow, windowStart}
 use Rattle.path.specs.Conflict.{notBeyond, inConflict}
 use Rattle.path.specs.Sizes.{searchStart}
 use Rattle.shown.specs.TimeShown.{approaches, firstSecond, secondsTried}
+
+-- the window holds its start, and so has a time
+abbrev pub Opened : SensedQuestion → Type 0
+Opened s = inWindow s (windowStart s .n) (windowStart s .m) ≡ true
 
 -- no conflict at the window's start
 abbrev pub StartTried : Side → SensedQuestion → Type 0

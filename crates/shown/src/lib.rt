@@ -1,6 +1,6 @@
 // The time shown on a side: the first of the rule's instants with a conflict, or, where the window has no end, the first whole second with one.
 ghost use mathlib.Core.Path.{_≡_};
-ghost use mathlib.Core.List.{_++_};
+ghost use mathlib.Core.List.{_∷_, _++_};
 ghost use Rattle.instant.specs.declared.Moment.the-variants.{At, Never};
 ghost use Rattle.instant.specs.Order.{_÷_};
 ghost use Rattle.path.specs.declared.Side.the-variants.{Lower};
@@ -10,7 +10,7 @@ ghost use Rattle.path.specs.Window.{windowStart, exitOf, windowEnd};
 ghost use Rattle.path.specs.Instants.{listed, turningInstant, pathInstants};
 ghost use Rattle.path.specs.Sizes.{Sizes, Sized, searchStart, searchEnd};
 ghost use Rattle.shown.specs.TimeShown.{approaches, searched, shownFrom, timeShown};
-ghost use Rattle.shown.specs.Search.{StartTried, Tried, Searchable, firstReached};
+ghost use Rattle.shown.specs.Search.{Opened, StartTried, Tried, Searchable, firstReached};
 use conflict::in_conflict;
 use conflict::in_window;
 use conflict::not_beyond;
@@ -20,6 +20,7 @@ use conflict::upper_target;
 use instant::Instant;
 use instant::Moment;
 use instant::earlier;
+use instant::no_later;
 use path::Limit;
 use path::SensedQuestion;
 use path::Side;
@@ -144,13 +145,10 @@ fn first_second(side: Side, s: SensedQuestion) -> u64
 // What is left where the window has no end and no instant has a conflict.
 fn from_search(side: Side, s: SensedQuestion) -> Moment
     requires { ⌜ Sized side s ⌝ }
-    requires { ⌜ Tried side s ⌝ }
+    requires { ⌜ Opened s × Tried side s ⌝ }
     requires { ⌜ windowEnd s ≡ Never ⌝ }
     ensures { λ t. ⌜ t ≡ searched side s ⌝ }
 {
-    if !in_window(s, 0, 1) {
-        return Moment::Never;
-    }
     if !approaching(side, s) {
         return Moment::Never;
     }
@@ -158,16 +156,17 @@ fn from_search(side: Side, s: SensedQuestion) -> Moment
     Moment::At(Instant { n: n, m: 1 })
 }
 
+// The window's end is in the window where its start is.
 fn from_end(side: Side, s: SensedQuestion) -> Moment
     requires { ⌜ Sized side s ⌝ }
-    requires { ⌜ Tried side s ⌝ }
+    requires { ⌜ Opened s × Tried side s ⌝ }
     ensures { λ t. ⌜ t ≡ shownFrom side s (listed (windowEnd s)) ⌝ }
 {
     let end = window_end(s);
     match end {
         Moment::Never => from_search(side, s),
         Moment::At(t) => {
-            if in_conflict(side, s, t.n, t.m) {
+            if not_beyond(side, s, t.n, t.m) {
                 return end;
             }
             Moment::Never
@@ -175,46 +174,65 @@ fn from_end(side: Side, s: SensedQuestion) -> Moment
     }
 }
 
-fn from_turning(s: SensedQuestion) -> Moment
+// From a turning instant t: the path rises from there on, so where it has turned by the window's start, or has none at t, no later time has a conflict.
+fn from_lowest(s: SensedQuestion, start: Instant, t: Instant) -> Moment
     requires { ⌜ Sizes s ⌝ }
-    requires { ⌜ Tried Lower s ⌝ }
+    requires { ⌜ Opened s × Tried Lower s ⌝ }
+    requires { ⌜ (start ≡ windowStart s) × (turningInstant (q s) (a s) (d s) (u-d s) ≡ At t) ⌝ }
+    ensures { λ r. ⌜ r ≡ shownFrom Lower s (t ∷ listed (windowEnd s)) ⌝ }
+{
+    if no_later(t, start) {
+        return Moment::Never;
+    }
+    if !in_window(s, t.n, t.m) {
+        return from_end(Side::Lower, s);
+    }
+    if not_beyond(Side::Lower, s, t.n, t.m) {
+        return Moment::At(t);
+    }
+    Moment::Never
+}
+
+fn from_turning(s: SensedQuestion, start: Instant) -> Moment
+    requires { ⌜ Sizes s ⌝ }
+    requires { ⌜ Opened s × Tried Lower s ⌝ }
+    requires { ⌜ start ≡ windowStart s ⌝ }
     ensures { λ t. ⌜ t ≡ shownFrom Lower s (listed (turningInstant (q s) (a s) (d s) (u-d s)) ++ listed (windowEnd s)) ⌝ }
 {
     let turning = turning_instant(s);
     match turning {
         Moment::Never => from_end(Side::Lower, s),
-        Moment::At(t) => {
-            if in_conflict(Side::Lower, s, t.n, t.m) {
-                return turning;
-            }
-            from_end(Side::Lower, s)
-        }
+        Moment::At(t) => from_lowest(s, start, t),
     }
 }
 
-fn from_delay(s: SensedQuestion) -> Moment
+fn from_delay(s: SensedQuestion, start: Instant) -> Moment
     requires { ⌜ Sizes s ⌝ }
-    requires { ⌜ StartTried Lower s ⌝ }
+    requires { ⌜ Opened s × StartTried Lower s ⌝ }
+    requires { ⌜ start ≡ windowStart s ⌝ }
     ensures { λ t. ⌜ t ≡ shownFrom Lower s (pathInstants Lower s ++ listed (windowEnd s)) ⌝ }
 {
     let d = s.delay;
     if in_conflict(Side::Lower, s, d, 1) {
         return Moment::At(Instant { n: d, m: 1 });
     }
-    from_turning(s)
+    from_turning(s, start)
 }
 
-// The time shown on a side.
+// The time shown on a side. A window that does not hold its start is empty.
 pub fn time_shown(side: Side, s: SensedQuestion) -> Moment
     requires { ⌜ Sized side s ⌝ }
     ensures { λ t. ⌜ t ≡ timeShown side s ⌝ }
 {
     let start = window_start(s);
-    if in_conflict(side, s, start.n, start.m) {
+    if !in_window(s, start.n, start.m) {
+        return Moment::Never;
+    }
+    if not_beyond(side, s, start.n, start.m) {
         return Moment::At(start);
     }
     match side {
-        Side::Lower => from_delay(s),
+        Side::Lower => from_delay(s, start),
         Side::Upper => from_end(side, s),
     }
 }

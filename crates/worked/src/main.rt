@@ -6,13 +6,13 @@ ghost use Rattle.judge.specs.Answers.{sidesNumber};
 use instant::Time;
 use judge::Answer;
 use judge::ClearSides;
-use judge::CodedQuestion;
-use judge::Encounter;
-use judge::Question;
-use judge::Settings;
 use judge::Verdict;
-use judge::coded_question;
 use judge::judge;
+use question::CodedQuestion;
+use question::Encounter;
+use question::Question;
+use question::Settings;
+use question::coded_question;
 
 const DESCEND: i64 = 0;
 

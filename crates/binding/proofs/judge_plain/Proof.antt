@@ -2,9 +2,9 @@
 use mathlib.Core.Path.{_≡_, sym, ap, ap₂, _∙_}
 use borrow.Author.Needs.{needs}
 use mir.Facts.{toZ-ofZ}
-use Rattle.judge.specs.declared.Encounter.{Encounter}
-use Rattle.judge.specs.declared.Settings.{Settings}
-use Rattle.judge.specs.declared.Question.{Question}
+use Rattle.question.specs.declared.Encounter.{Encounter}
+use Rattle.question.specs.declared.Settings.{Settings}
+use Rattle.question.specs.declared.Question.{Question}
 use Rattle.judge.specs.Answers.{answer}
 use Rattle.judge.proofs.AnswerRecords.{record-determines}
 use Rattle.binding.specs.Flat.{flatAnswer, plainEncounter, plainSettings, plainQuestion}

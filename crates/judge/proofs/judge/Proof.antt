@@ -1,9 +1,9 @@
 -- `judge::judge` meets its contract: refused by the first test that fails, else judged.
 use mathlib.Core.Path.{_≡_, sym, ap, _∙_}
 use borrow.Author.Needs.{needs}
-use Rattle.judge.specs.declared.Checked.{Checked}
+use Rattle.question.specs.declared.Checked.{Checked}
 use Rattle.judge.specs.declared.Answer.{Answer}
-use Rattle.judge.specs.Refusals.{refusal}
+use Rattle.question.specs.Refusals.{refusal}
 use Rattle.judge.specs.Sensed.{sensedQuestion}
 use Rattle.judge.specs.Verdicts.{verdict}
 use Rattle.judge.specs.Answers.{checkedAnswer, answer, answerRecord}

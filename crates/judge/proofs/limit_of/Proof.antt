@@ -5,7 +5,7 @@ use mir.Facts.{toZ-ofZ}
 use Rattle.integers.specs.Extremes.{max0}
 use Rattle.integers.proofs.Machine.{fitting, plain-terms, plain}
 use Rattle.path.specs.declared.Limit.the-variants.{Unlimited, Upto}
-use Rattle.judge.proofs.Branches.{picks-yes, picks-no}
+use Rattle.integers.proofs.Branches.{picks-yes, picks-no}
 use Rattle.judge.proofs.limit_of.Statement.{statement}
 use Rattle.judge.proofs.limit_of.Tie as tie
 

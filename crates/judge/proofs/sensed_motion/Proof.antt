@@ -10,7 +10,7 @@ use Rattle.integers.proofs.Machine.{Reading, machine, fits, result}
 use Rattle.advisory.specs.Sign.{sensed}
 use Rattle.conflict.proofs.Fields.{size}
 use Rattle.judge.specs.declared.Motion.{Motion}
-use Rattle.judge.specs.Refusals.{senseOf}
+use Rattle.question.specs.Refusals.{senseOf}
 use Rattle.judge.proofs.PlainFields.{read-height, read-speed, read-intruder, read-target, read-upper-target}
 use Rattle.judge.proofs.sensed_motion.Statement.{statement}
 use Rattle.judge.proofs.sensed_motion.Tie as tie

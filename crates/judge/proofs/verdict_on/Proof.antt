@@ -4,10 +4,10 @@ use borrow.Author.Needs.{needs}
 use Rattle.path.specs.declared.Side.the-variants.{Lower, Upper}
 use Rattle.path.specs.Sizes.{Sizes, UpperSizes}
 use Rattle.shown.specs.TimeShown.{timeShown}
-use Rattle.judge.specs.Refusals.{twoSided}
+use Rattle.question.specs.Refusals.{twoSided}
 use Rattle.judge.specs.Verdicts.{oneSidedVerdict, twoSidedVerdict, verdict}
 use Rattle.judge.proofs.AcceptedSizes.{accepted-sizes, accepted-upper-sizes}
-use Rattle.judge.proofs.Branches.{picks-yes, picks-no}
+use Rattle.integers.proofs.Branches.{picks-yes, picks-no}
 use Rattle.judge.proofs.verdict_on.Statement.{statement}
 use Rattle.judge.proofs.verdict_on.Tie as tie
 

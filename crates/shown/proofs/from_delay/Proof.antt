@@ -20,7 +20,7 @@ returns c =
     hit Lower s (s .delay ÷ 1) (listed (turningInstant (s .target) (s .strength) (s .delay) (u-d s)) ++ listed (windowEnd s)) (sym (c .before .in-conflict .ensures) ∙ c .if1 .taken)
 
 from-turning-requires : tie.Need-from-turning-requires
-from-turning-requires c κs = let z = c .before .before in (z .pre .0, (z .pre .1, sym (c .before .in-conflict .ensures) ∙ c .if1 .left))
+from-turning-requires c κs = let z = c .before .before in (z .pre .0, ((z .pre .1 .0 .0, (z .pre .1 .0 .1, sym (c .before .in-conflict .ensures) ∙ c .if1 .left)), z .pre .1 .1))
 
 returns-2 : tie.Need-returns-2
 returns-2 c =

@@ -1,7 +1,6 @@
--- `shown::from_turning` meets its contract: the turning instant, if there is one, has a conflict or not.
-use mathlib.Core.Path.{_≡_, refl, sym, ap, _∙_, subst}
+-- `shown::from_turning` meets its contract: by whether there is a turning instant.
+use mathlib.Core.Path.{_≡_, sym, ap, _∙_}
 use mathlib.Core.List.{_++_}
-use mathlib.Core.Logic.{inl}
 use borrow.Author.Needs.{needs}
 use Rattle.instant.specs.declared.Moment.{Moment}
 use Rattle.instant.specs.declared.Moment.the-variants.{At}
@@ -9,10 +8,8 @@ use Rattle.path.specs.declared.SensedQuestion.{SensedQuestion}
 use Rattle.path.specs.declared.Side.the-variants.{Lower}
 use Rattle.path.specs.Paths.{u-d}
 use Rattle.path.specs.Window.{windowEnd}
-use Rattle.path.specs.Instants.{Among, listed, turningInstant}
+use Rattle.path.specs.Instants.{listed, turningInstant}
 use Rattle.shown.specs.TimeShown.{shownFrom}
-use Rattle.shown.proofs.InstantsInReach.{turnings-near}
-use Rattle.shown.proofs.Steps.{hit, miss}
 use Rattle.shown.proofs.from_turning.Statement.{statement}
 use Rattle.shown.proofs.from_turning.Tie as tie
 
@@ -30,7 +27,7 @@ enum-told : tie.Need-enum-told
 enum-told c = search needs
 
 from-end-requires : tie.Need-from-end-requires
-from-end-requires c κs = let z = c .before .before .before in (z .pre .0, z .pre .1)
+from-end-requires c κs = let z = c .before .before .before in (z .pre .0, z .pre .1 .0)
 
 enum-known-turning : tie.Need-enum-known-turning
 enum-known-turning c = search needs
@@ -38,38 +35,24 @@ enum-known-turning c = search needs
 turning-is : (c : tie.After-turning) → turning-of (c .before .before .before .args .s) ≡ At (c .turning .given .0 .0)
 turning-is c = sym (c .before .before .turning-instant .ensures) ∙ c .turning .given .1
 
-in-conflict-requires : tie.Need-in-conflict-requires
-in-conflict-requires c κs =
+from-lowest-requires : tie.Need-from-lowest-requires
+from-lowest-requires c κs =
     let d = c .before in
     let z = d .before .before .before in
-    let s = z .args .s in
-    let t = d .turning .given .0 .0 in
-    (z .pre .0, turnings-near s (z .pre .0) (s .target) t (subst (λ (m : Moment). Among t (listed m)) (sym (turning-is d)) (inl refl)))
+    (z .pre .0, (z .pre .1 .0, (z .pre .1 .1, turning-is d)))
 
 returns : tie.Need-returns
 returns c =
-    let k = c .before in
-    let d = k .before .before in
-    let s = d .before .before .before .args .s in
-    hit Lower s (d .turning .given .0 .0) (listed (windowEnd s)) (sym (k .in-conflict .ensures) ∙ c .if1 .taken) ∙ ap (shown-with s) (sym (turning-is d))
-
-from-end-requires-2 : tie.Need-from-end-requires-2
-from-end-requires-2 c κs = let z = c .before .before .before .before .before .before in (z .pre .0, z .pre .1)
-
-returns-2 : tie.Need-returns-2
-returns-2 c =
     let e = c .before in
     let w = e .before .before in
     let s = w .before .args .s in
     c .from-end .ensures ∙ ap (shown-with s) (sym (sym (w .turning-instant .ensures) ∙ e .enum-told .given .1))
 
-returns-3 : tie.Need-returns-3
-returns-3 c =
-    let b = c .before in
-    let k = b .before in
-    let d = k .before .before in
+returns-2 : tie.Need-returns-2
+returns-2 c =
+    let d = c .before .before in
     let s = d .before .before .before .args .s in
-    c .from-end2 .ensures ∙ miss Lower s (d .turning .given .0 .0) (listed (windowEnd s)) (sym (k .in-conflict .ensures) ∙ b .if1 .left) ∙ ap (shown-with s) (sym (turning-is d))
+    c .from-lowest .ensures ∙ ap (shown-with s) (sym (turning-is d))
 
 pub from-turning-spec : {M : Type 1} → statement M
-from-turning-spec = tie.close (tie.spec turning-instant-requires enum-told from-end-requires enum-known-turning in-conflict-requires returns from-end-requires-2 returns-2 returns-3)
+from-turning-spec = tie.close (tie.spec turning-instant-requires enum-told from-end-requires enum-known-turning from-lowest-requires returns returns-2)

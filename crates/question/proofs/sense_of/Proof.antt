@@ -1,9 +1,9 @@
--- `judge::sense_of` meets its contract: the branch is the definition's.
+-- `question::sense_of` meets its contract: the branch is the definition's.
 use mathlib.Core.Path.{sym, _∙_}
 use borrow.Author.Needs.{needs}
-use Rattle.judge.proofs.Branches.{picks-yes, picks-no}
-use Rattle.judge.proofs.sense_of.Statement.{statement}
-use Rattle.judge.proofs.sense_of.Tie as tie
+use Rattle.integers.proofs.Branches.{picks-yes, picks-no}
+use Rattle.question.proofs.sense_of.Statement.{statement}
+use Rattle.question.proofs.sense_of.Tie as tie
 
 climbs-requires : tie.Need-climbs-requires
 climbs-requires c κs = search needs

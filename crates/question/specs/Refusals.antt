@@ -8,12 +8,12 @@ use lib.Signed.{leZ}
 use Rattle.advisory.specs.declared.Sense.{Sense}
 use Rattle.advisory.specs.declared.Sense.the-variants.{Climb, Descend}
 use Rattle.advisory.specs.Sign.{sensed}
-use Rattle.judge.specs.declared.Encounter.{Encounter}
-use Rattle.judge.specs.declared.Settings.{Settings}
-use Rattle.judge.specs.declared.Question.{Question}
-use Rattle.judge.specs.declared.Checked.{Checked}
-use Rattle.judge.specs.declared.Checked.the-variants.{Accepted, Refused}
-use Rattle.judge.specs.Limits.{within, distanceWithin, heightWithin, closingSpeedWithin, speedWithin, radiusWithin, halfHeightWithin, strengthWithin, accelerationWithin, delayWithin, limitWithin}
+use Rattle.question.specs.declared.Encounter.{Encounter}
+use Rattle.question.specs.declared.Settings.{Settings}
+use Rattle.question.specs.declared.Question.{Question}
+use Rattle.question.specs.declared.Checked.{Checked}
+use Rattle.question.specs.declared.Checked.the-variants.{Accepted, Refused}
+use Rattle.question.specs.Limits.{within, distanceWithin, heightWithin, closingSpeedWithin, speedWithin, radiusWithin, halfHeightWithin, strengthWithin, accelerationWithin, delayWithin, limitWithin}
 
 -- x is the number n
 abbrev pub isNumber : ℤ → ℤ → Bool

@@ -1,10 +1,10 @@
--- `judge::advice_within` meets its contract: each part is a call's, and the branch is the definition's.
+-- `question::advice_within` meets its contract: each part is a call's, and the branch is the definition's.
 use mathlib.Core.Path.{sym, _∙_}
 use borrow.Author.Needs.{needs}
-use Rattle.judge.specs.Refusals.{twoSided, upperWithin, upperZero}
-use Rattle.judge.proofs.Branches.{picks-yes, picks-no}
-use Rattle.judge.proofs.advice_within.Statement.{statement}
-use Rattle.judge.proofs.advice_within.Tie as tie
+use Rattle.question.specs.Refusals.{twoSided, upperWithin, upperZero}
+use Rattle.integers.proofs.Branches.{picks-yes, picks-no}
+use Rattle.question.proofs.advice_within.Statement.{statement}
+use Rattle.question.proofs.advice_within.Tie as tie
 
 lower-within-requires : tie.Need-lower-within-requires
 lower-within-requires c κs = search needs

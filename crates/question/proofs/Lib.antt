@@ -1,0 +1,2 @@
+pub mod SensedOrder
+pub mod WithinLimits

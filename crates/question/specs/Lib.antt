@@ -1,0 +1,4 @@
+pub mod StartingSettings
+pub mod Limits
+pub mod Refusals
+pub mod Coded

@@ -1,0 +1,114 @@
+-- What the window's start decides: a window that does not hold it is empty, and one that does holds its end. And what the turning instant decides: the
+-- path rises from there on, so where it is beyond the puck's edge at a later time, it stays so. Assumes nothing.
+use mathlib.Core.Path.{_≡_, refl, sym, ap, _∙_, subst}
+use mathlib.Core.Bool.{Bool, true, false, _&&_}
+use mathlib.Core.List.{List, [], _∷_}
+use mathlib.Core.Logic.{inl, inr, ⊎-elim}
+use Prim.Native.Nat.{ℕ, _+_, _*_, _<_}
+use native.Mathlib.Omega.{arith}
+use lib.IntN.{ℤ, pos, negsuc, negℤ}
+use lib.Signed.{_≤ℤ_, ltZ-yes, clashℤ}
+use Rattle.integers.specs.Extremes.{max0}
+use Rattle.integers.proofs.Certificates.{pos≤}
+use Rattle.instant.specs.declared.Instant.{Instant}
+use Rattle.instant.specs.declared.Moment.{Moment}
+use Rattle.instant.specs.declared.Moment.the-variants.{At, Never}
+use Rattle.instant.specs.Order.{_÷_, _≼_}
+use Rattle.instant.proofs.TimeOrder.{≼-refl, ≼-trans}
+use Rattle.path.specs.declared.SensedQuestion.{SensedQuestion}
+use Rattle.path.specs.declared.Side.{Side}
+use Rattle.path.specs.declared.Side.the-variants.{Lower}
+use Rattle.path.specs.Paths.{u-d}
+use Rattle.path.specs.Window.{Window, inWindow, windowStart, windowEnd}
+use Rattle.path.specs.Conflict.{NotBeyond, notBeyond, Conflict, inConflict}
+use Rattle.path.specs.Instants.{Among, listed, turningInstant, instants}
+use Rattle.path.specs.Sizes.{Sizes, Sized}
+use Rattle.path.proofs.Membership.{among-one}
+use Rattle.path.proofs.Decisions.{window-decided, notBeyond-decided, conflict-decided}
+use Rattle.path.proofs.WindowEnds.{window-between, between-window, windowStart-divisor, windowEnd-divisor, endless-start-zero}
+use Rattle.path.proofs.SideProfiles.{instants-divisor}
+use Rattle.path.proofs.Risen.{risen}
+use Rattle.shown.specs.TimeShown.{isNever, approaches, searches, shownFrom, timeShown}
+use Rattle.shown.specs.Search.{Opened, StartTried}
+use Rattle.shown.proofs.Steps.{yes, no, true-of, false-of, miss, no-search, only-search, searches-is}
+
+-- where no instant of a list has a conflict, and nothing is searched, nothing is shown
+none-shown : (side : Side) (s : SensedQuestion) (l : List Instant) → ((x : Instant) → Among x l → ¬ Conflict side s (x .n) (x .m)) → searches side s ≡ false → Never ≡ shownFrom side s l
+none-shown side s [] h e = no-search side s e ∙ only-search side s
+none-shown side s (x ∷ l) h e = none-shown side s l (λ y i. h y (inr i)) e
+    ∙ miss side s x l (false-of (inConflict side s (x .n) (x .m)) (λ t. h x (inl refl) (conflict-decided s (x .n) (x .m) side .0 t)))
+
+module _ (s : SensedQuestion) where
+  -- ---- a window with a time holds its start
+  start-in : (n m : ℕ) → 0 < m → Window s n m → Window s (windowStart s .n) (windowStart s .m)
+  start-in n m pm w =
+      let b = window-between s n m w in
+      between-window s n m (windowStart s .n) (windowStart s .m) pm w (record { after = ≼-refl (windowStart s); before = λ t i. ≼-trans (windowStart s) (n ÷ m) t pm (b .after) (b .before t i) })
+
+  pub empty-shown : (side : Side) → Sized side s → inWindow s (windowStart s .n) (windowStart s .m) ≡ false → Never ≡ timeShown side s
+  unfolding timeShown
+  empty-shown side z e = none-shown side s (instants side s)
+      (λ x i c. no (inWindow s (windowStart s .n) (windowStart s .m)) e (window-decided s (windowStart s .n) (windowStart s .m) .1 (start-in (x .n) (x .m) (instants-divisor side s z x i) (c .window))))
+      (not-searched (windowEnd s) refl)
+    where
+      not-searched : (m : Moment) → windowEnd s ≡ m → searches side s ≡ false
+      not-searched (At t) q = ap (λ (m : Moment). isNever m && (inWindow s 0 1 && approaches side s)) q
+      not-searched Never q = searches-is side s q ∙ ap (λ (b : Bool). b && approaches side s) (ap (λ (t : Instant). inWindow s (t .n) (t .m)) (sym (endless-start-zero s q)) ∙ e)
+
+  -- ---- and, with it, its end, or without one every whole second
+  module _ (o : Opened s) where
+    start-window : Window s (windowStart s .n) (windowStart s .m)
+    start-window = window-decided s (windowStart s .n) (windowStart s .m) .0 (yes (inWindow s (windowStart s .n) (windowStart s .m)) o)
+
+    pub end-in : (t : Instant) → windowEnd s ≡ At t → inWindow s (t .n) (t .m) ≡ true
+    end-in t e =
+        let i : Among t (listed (windowEnd s)) = subst (λ (m : Moment). Among t (listed m)) (sym e) (inl refl) in
+        true-of (inWindow s (t .n) (t .m)) (window-decided s (t .n) (t .m) .1
+        (between-window s (windowStart s .n) (windowStart s .m) (t .n) (t .m) (windowStart-divisor s) start-window (record {
+          after = window-between s (windowStart s .n) (windowStart s .m) start-window .before t i;
+          before = λ x j. among-one (λ y. t ≼ y) t x (≼-refl t) (subst (λ (m : Moment). Among x (listed m)) e j);
+        })))
+
+    pub zero-in : windowEnd s ≡ Never → inWindow s 0 1 ≡ true
+    zero-in e = ap (λ (t : Instant). inWindow s (t .n) (t .m)) (sym (endless-start-zero s e)) ∙ o
+
+  -- ---- from the turning instant on
+  abbrev instantOf : Moment → Instant
+  instantOf Never = 0 ÷ 1
+  instantOf (At t) = t
+
+  turned : (q : ℤ) (a d : ℕ) (x : ℤ) (t : Instant) → turningInstant q a d x ≡ At t → (pos 0 ≤ℤ q) × (d * a + max0 (negℤ x) ÷ a ≡ t)
+  turned (pos q) a d x t e = (pos≤ {m = 0} {n = q} (omega arith), ap instantOf e)
+  turned (negsuc q) a d x t e = absurd (no true (ap isNever e) tt)
+
+  module _ (z : Sizes s) (t : Instant) (e : turningInstant (s .target) (s .strength) (s .delay) (u-d s) ≡ At t) where
+    departs : searches Lower s ≡ false
+    departs = none (isNever (windowEnd s)) (inWindow s 0 1) (approaches Lower s) (false-of (approaches Lower s) (λ k. clashℤ (ltZ-yes k) (turned (s .target) (s .strength) (s .delay) (u-d s) t e .0)))
+      where
+        none : (a b c : Bool) → c ≡ false → (a && (b && c)) ≡ false
+        none true true c h = h
+        none true false c h = refl
+        none false b c h = refl
+
+    -- beyond the edge at x, no earlier than t, and so from there on
+    risen-shown : (x : Instant) → 0 < x .m → t ≼ x → ¬ NotBeyond Lower s (x .n) (x .m) → (l : List Instant) → ((y : Instant) → Among y l → (0 < y .m) × (Conflict Lower s (y .n) (y .m) → x ≼ y)) → Never ≡ shownFrom Lower s l
+    risen-shown x px l h k f =
+        let q = turned (s .target) (s .strength) (s .delay) (u-d s) t e in
+        none-shown Lower s k (λ y i c. h (risen s (z .a-lo) (q .0) x y px (f y i .0) (subst (λ (v : Instant). v ≼ x) (sym (q .1)) l) (f y i .1 c) (c .vertical))) departs
+
+    positive : 0 < t .m
+    positive = subst (λ (v : Instant). 0 < v .m) (turned (s .target) (s .strength) (s .delay) (u-d s) t e .1) (z .a-lo)
+
+    divisors : (y : Instant) → Among y (t ∷ listed (windowEnd s)) → 0 < y .m
+    divisors y i = ⊎-elim (λ g. subst (λ (v : Instant). 0 < v .m) (sym g) positive) (windowEnd-divisor s y) i
+
+    -- turned by the window's start
+    pub turned-before : Opened s → StartTried Lower s → t ≼ windowStart s → Never ≡ shownFrom Lower s (t ∷ listed (windowEnd s))
+    turned-before o h l = risen-shown (windowStart s) (windowStart-divisor s) l
+        (λ c. no (inConflict Lower s (windowStart s .n) (windowStart s .m)) h (conflict-decided s (windowStart s .n) (windowStart s .m) Lower .1 (record { window = start-window o; vertical = c })))
+        (t ∷ listed (windowEnd s)) (λ y i. (divisors y i, λ c. window-between s (y .n) (y .m) (c .window) .after))
+
+    -- beyond the edge at its lowest
+    pub lowest-beyond : inWindow s (t .n) (t .m) ≡ true → notBeyond Lower s (t .n) (t .m) ≡ false → Never ≡ shownFrom Lower s (t ∷ listed (windowEnd s))
+    lowest-beyond w h = risen-shown t positive (≼-refl t) (λ c. no (notBeyond Lower s (t .n) (t .m)) h (notBeyond-decided Lower s (t .n) (t .m) .1 c)) (t ∷ listed (windowEnd s))
+        (λ y i. (divisors y i, λ c. ⊎-elim (λ g. subst (λ (v : Instant). t ≼ v) (sym g) (≼-refl t)) (window-between s (t .n) (t .m) (window-decided s (t .n) (t .m) .0 (yes (inWindow s (t .n) (t .m)) w)) .before y) i))
