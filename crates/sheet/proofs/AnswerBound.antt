@@ -23,20 +23,20 @@ use Rattle.judge.specs.Verdicts.{verdict}
 use Rattle.judge.specs.Answers.{checkedAnswer, answer}
 use Rattle.judge.specs.Demand3.{RightOneSided}
 use Rattle.judge.proofs.Demand3.{one-sided}
-use Rattle.sheet.specs.declared.LastEncounter.{LastEncounter}
-use Rattle.sheet.specs.declared.LastEncounter.the-variants.{Absent, Present}
-use Rattle.sheet.specs.declared.Kind.{Kind}
-use Rattle.sheet.specs.declared.State.{State}
-use Rattle.sheet.specs.declared.Reply.the-variants.{Answered}
-use Rattle.sheet.specs.Kinds.{kindOf, bodyLength, known}
-use Rattle.sheet.specs.Numbers.{byteAt, shortAt, numberAt}
-use Rattle.sheet.specs.Records.{encounterIn, questionIn, recordOf, recordsAfter}
-use Rattle.sheet.specs.States.{startingState, withPuck, withDelayAcceleration, stateAfter}
-use Rattle.sheet.specs.Replies.{settingsReply, askedAnswer, codedAnswer, freeAnswer, replyTo}
-use Rattle.sheet.specs.AnswerBytes.{replyBytes, answersFrom}
-use Rattle.sheet.specs.SheetCheck.{faultAfter, sheetCheck}
-use Rattle.sheet.specs.WholeSheet.{sheetAnswer}
-use Rattle.sheet.proofs.Scan.{not-refused, accepted-sheet}
+use Rattle.record.specs.declared.Kind.{Kind}
+use Rattle.record.specs.Kinds.{kindOf, bodyLength, known}
+use Rattle.record.specs.Numbers.{byteAt, shortAt, numberAt}
+use Rattle.record.specs.Records.{encounterIn, questionIn, recordOf, recordsAfter}
+use Rattle.record.specs.SheetCheck.{faultAfter, sheetCheck}
+use Rattle.record.proofs.Scan.{not-refused, accepted-sheet}
+use Rattle.reply.specs.declared.Reply.the-variants.{Answered}
+use Rattle.reply.specs.AnswerBytes.{replyBytes}
+use Rattle.answering.specs.declared.LastEncounter.{LastEncounter}
+use Rattle.answering.specs.declared.LastEncounter.the-variants.{Absent, Present}
+use Rattle.answering.specs.declared.State.{State}
+use Rattle.answering.specs.States.{startingState, withPuck, withDelayAcceleration, stateAfter}
+use Rattle.answering.specs.Replies.{settingsReply, askedAnswer, codedAnswer, freeAnswer, replyTo}
+use Rattle.sheet.specs.WholeSheet.{answersFrom, sheetAnswer}
 
 abbrev size : Answer → ℕ
 size a = length (replyBytes (Answered a))

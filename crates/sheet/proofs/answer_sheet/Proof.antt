@@ -9,8 +9,8 @@ use lib.ListN.{length, drop}
 use lib.Seq.{sets, sets-eq}
 use Rattle.judge.specs.declared.Checked.{Checked}
 use Rattle.judge.proofs.Branches.{picks-yes, picks-no}
+use Rattle.record.specs.SheetCheck.{sheetCheck}
 use Rattle.sheet.specs.declared.Outcome.{Outcome}
-use Rattle.sheet.specs.SheetCheck.{sheetCheck}
 use Rattle.sheet.specs.WholeSheet.{sheetAnswer, outcomeFor, outcome, areaFor, areaAfter, outcomeRecord}
 use borrow.Author.Needs.{needs}
 use Rattle.sheet.proofs.answer_sheet.Statement.{statement}

@@ -5,15 +5,16 @@ use native.Mathlib.Omega.{arith}
 use lib.ListN.{length, drop}
 use Rattle.judge.specs.declared.Checked.the-variants.{Accepted}
 use lib.Seq.{sets, length-sets}
-use Rattle.sheet.specs.declared.State.{State}
-use Rattle.sheet.specs.Records.{records}
-use Rattle.sheet.specs.States.{stateAfter}
-use Rattle.sheet.specs.Replies.{replyTo}
-use Rattle.sheet.specs.AnswerBytes.{replyBytes, answersFrom}
-use Rattle.sheet.specs.SheetCheck.{faultAfter}
-use Rattle.sheet.specs.WholeSheet.{sheetAnswer}
-use Rattle.sheet.proofs.Scan.{nextAt, whole-record, answers-done, answers-here, answers-length-here, accepted-sheet}
-use Rattle.sheet.proofs.Writing.{sets-append}
+use Rattle.record.specs.Records.{records}
+use Rattle.record.specs.SheetCheck.{faultAfter}
+use Rattle.record.proofs.Scan.{nextAt, whole-record, accepted-sheet}
+use Rattle.reply.specs.AnswerBytes.{replyBytes}
+use Rattle.reply.proofs.Writing.{sets-append}
+use Rattle.answering.specs.declared.State.{State}
+use Rattle.answering.specs.States.{stateAfter}
+use Rattle.answering.specs.Replies.{replyTo}
+use Rattle.sheet.specs.WholeSheet.{answersFrom, sheetAnswer}
+use Rattle.sheet.proofs.AnswersAhead.{answers-done, answers-here, answers-length-here}
 use borrow.Author.Needs.{needs}
 use Rattle.sheet.proofs.write_sheet_answer.Statement.{statement}
 use Rattle.sheet.proofs.write_sheet_answer.Tie as tie
