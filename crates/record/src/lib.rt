@@ -186,7 +186,7 @@ pub fn next_at(sheet: &[u8], at: usize) -> usize
     at + 1 + body_length(kind_of(sheet[at]))
 }
 
-// First pass: the kinds and the lengths of the bodies.
+// The first fault of the kinds and the lengths of the bodies.
 fn first_fault(sheet: &[u8]) -> Checked
     ensures { λ r. ⌜ r ≡ faultAfter 0 (now (sheet .entry)) ⌝ }
 {

@@ -1,6 +1,7 @@
 // A question sheet, its records answered in order into an area that the caller lends. `specs/` says what the answer and each outcome are.
 ghost use mathlib.Core.Path.{_≡_};
 ghost use Prim.Native.Nat.{_≤_};
+ghost use lib.Dec.{leb};
 ghost use lib.ListN.{length};
 ghost use lib.Seq.{sets};
 ghost use Rattle.judge.specs.declared.Checked.the-variants.{Accepted};
@@ -22,7 +23,10 @@ pub enum Outcome {
     Refused(u8),
 }
 
-// Second pass: the length of the whole answer, before a byte of it is written.
+// No accepted sheet's answer is longer (`sheet-answer-short`).
+const LONGEST_ANSWER: usize = 26624;
+
+// The length of the whole answer.
 fn sheet_answer_length(sheet: &[u8]) -> usize
     requires { ⌜ sheetCheck (now sheet) ≡ Accepted ⌝ }
     ensures { λ r. ⌜ r ≡ length (sheetAnswer (now (sheet .entry))) ⌝ }
@@ -39,10 +43,21 @@ fn sheet_answer_length(sheet: &[u8]) -> usize
     total
 }
 
-// Third pass: the answer's bytes, into an area that holds them.
-fn write_sheet_answer(sheet: &[u8], area: &mut [u8])
+// Whether an area of so many bytes holds the whole answer. Only one that could be too short costs a pass over the questions.
+fn answer_fits(sheet: &[u8], room: usize) -> bool
+    requires { ⌜ sheetCheck (now sheet) ≡ Accepted ⌝ }
+    ensures { λ r. ⌜ r ≡ leb (length (sheetAnswer (now (sheet .entry)))) room ⌝ }
+{
+    if LONGEST_ANSWER <= room {
+        return true;
+    }
+    sheet_answer_length(sheet) <= room
+}
+
+// The answer's bytes, into an area that holds them; and their number.
+fn write_sheet_answer(sheet: &[u8], area: &mut [u8]) -> usize
     requires { ⌜ (sheetCheck (now sheet) ≡ Accepted) × (length (sheetAnswer (now sheet)) ≤ length (now area)) ⌝ }
-    ensures { λ _. ⌜ now (area .exit) ≡ sets (now (area .entry)) 0 (sheetAnswer (now (sheet .entry))) ⌝ }
+    ensures { λ r. ⌜ (r ≡ length (sheetAnswer (now (sheet .entry)))) × (now (area .exit) ≡ sets (now (area .entry)) 0 (sheetAnswer (now (sheet .entry)))) ⌝ }
 {
     let mut place: usize = 0;
     let mut written: usize = 0;
@@ -55,6 +70,7 @@ fn write_sheet_answer(sheet: &[u8], area: &mut [u8])
         state = state_after(state, record);
         place = next_at(sheet, place);
     }
+    written
 }
 
 // The entry: any sheet, any area.
@@ -63,13 +79,10 @@ pub fn answer_sheet(sheet: &[u8], area: &mut [u8]) -> Outcome
 {
     match check_sheet(sheet) {
         Checked::Refused(number) => Outcome::Refused(number),
-        Checked::Accepted => {
-            let needed = sheet_answer_length(sheet);
-            if area.len() < needed {
-                return Outcome::Refused(13);
-            }
-            write_sheet_answer(sheet, area);
-            Outcome::Accepted(needed)
-        }
+        Checked::Accepted => if answer_fits(sheet, area.len()) {
+            Outcome::Accepted(write_sheet_answer(sheet, area))
+        } else {
+            Outcome::Refused(13)
+        },
     }
 }
