@@ -1,5 +1,5 @@
 -- `sheet::answer_fits` meets its contract: the longest answer's bound gives the room without a pass.
-use mathlib.Core.Path.{sym, ap, _∙_}
+use mathlib.Core.Path.{sym, ap}
 use Prim.Native.Nat.{ℕ}
 use native.Mathlib.Omega.{arith}
 use borrow.Author.Tests.{le-leb}
