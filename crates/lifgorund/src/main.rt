@@ -1,7 +1,7 @@
 // The program: a question sheet from standard input, its answer to standard output.
 ghost use mathlib.Core.Path.{_≡_};
+ghost use Rattle.reply.specs.AnswerBytes.{recordBytes};
 ghost use Rattle.sheet.specs.declared.Outcome.the-variants.{Refused};
-ghost use Rattle.sheet.specs.AnswerBytes.{recordBytes};
 ghost use Rattle.sheet.specs.WholeSheet.{outcomeRecord};
 use sheet::Outcome;
 use sheet::answer_sheet;

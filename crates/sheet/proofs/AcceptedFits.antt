@@ -7,10 +7,10 @@ use native.Mathlib.Omega.{arith}
 use borrow.Author.Tests.{leb-true}
 use lib.Dec.{leb}
 use lib.ListN.{length, getD}
-use Rattle.judge.specs.declared.Checked.{Checked}
+use Rattle.question.specs.declared.Checked.{Checked}
 use Rattle.judge.specs.Answers.{AnswerRecord}
+use Rattle.record.specs.SheetCheck.{sheetCheck}
 use Rattle.sheet.specs.declared.Outcome.the-variants.{Accepted, Refused}
-use Rattle.sheet.specs.SheetCheck.{sheetCheck}
 use Rattle.sheet.specs.WholeSheet.{sheetAnswer, outcomeFor, outcome, outcomeRecord}
 
 fits-for : (k : Checked) (needed room written : ℕ) → outcomeRecord (Accepted written) ≡ outcomeRecord (outcomeFor k needed room) → written ≤ room

@@ -8,35 +8,35 @@ use lib.IntN.{ℤ, pos}
 use lib.ListN.{length, length-append}
 use Rattle.advisory.specs.declared.Advised.{Advised}
 use Rattle.advisory.specs.Advised.{advisedOf}
-use Rattle.judge.specs.declared.Encounter.{Encounter}
-use Rattle.judge.specs.declared.Settings.{Settings}
-use Rattle.judge.specs.declared.Question.{Question}
-use Rattle.judge.specs.declared.Checked.{Checked}
-use Rattle.judge.specs.declared.Checked.the-variants.{Accepted, Refused}
+use Rattle.question.specs.declared.Encounter.{Encounter}
+use Rattle.question.specs.declared.Settings.{Settings}
+use Rattle.question.specs.declared.Question.{Question}
+use Rattle.question.specs.declared.Checked.{Checked}
+use Rattle.question.specs.declared.Checked.the-variants.{Accepted, Refused}
 use Rattle.judge.specs.declared.Verdict.{Verdict}
 use Rattle.judge.specs.declared.Verdict.the-variants.{Clear, Conflict, Conflicts}
 use Rattle.judge.specs.declared.Answer.{Answer}
-use Rattle.judge.specs.Refusals.{encounterWithin, puckWithin, delayAccelerationWithin, refusal, twoSided}
+use Rattle.question.specs.Refusals.{encounterWithin, puckWithin, delayAccelerationWithin, refusal, twoSided}
 use Rattle.judge.specs.Sensed.{sensedQuestion}
-use Rattle.judge.specs.Coded.{asked, instructed, codedQuestion}
+use Rattle.question.specs.Coded.{asked, instructed, codedQuestion}
 use Rattle.judge.specs.Verdicts.{verdict}
 use Rattle.judge.specs.Answers.{checkedAnswer, answer}
 use Rattle.judge.specs.Demand3.{RightOneSided}
 use Rattle.judge.proofs.Demand3.{one-sided}
-use Rattle.sheet.specs.declared.LastEncounter.{LastEncounter}
-use Rattle.sheet.specs.declared.LastEncounter.the-variants.{Absent, Present}
-use Rattle.sheet.specs.declared.Kind.{Kind}
-use Rattle.sheet.specs.declared.State.{State}
-use Rattle.sheet.specs.declared.Reply.the-variants.{Answered}
-use Rattle.sheet.specs.Kinds.{kindOf, bodyLength, known}
-use Rattle.sheet.specs.Numbers.{byteAt, shortAt, numberAt}
-use Rattle.sheet.specs.Records.{encounterIn, questionIn, recordOf, recordsAfter}
-use Rattle.sheet.specs.States.{startingState, withPuck, withDelayAcceleration, stateAfter}
-use Rattle.sheet.specs.Replies.{settingsReply, askedAnswer, codedAnswer, freeAnswer, replyTo}
-use Rattle.sheet.specs.AnswerBytes.{replyBytes, answersFrom}
-use Rattle.sheet.specs.SheetCheck.{faultAfter, sheetCheck}
-use Rattle.sheet.specs.WholeSheet.{sheetAnswer}
-use Rattle.sheet.proofs.Scan.{not-refused, accepted-sheet}
+use Rattle.record.specs.declared.Kind.{Kind}
+use Rattle.record.specs.Kinds.{kindOf, bodyLength, known}
+use Rattle.record.specs.Numbers.{byteAt, shortAt, numberAt}
+use Rattle.record.specs.Records.{encounterIn, questionIn, recordOf, recordsAfter}
+use Rattle.record.specs.SheetCheck.{faultAfter, sheetCheck}
+use Rattle.record.proofs.Scan.{not-refused, accepted-sheet}
+use Rattle.reply.specs.declared.Reply.the-variants.{Answered}
+use Rattle.reply.specs.AnswerBytes.{replyBytes}
+use Rattle.answering.specs.declared.LastEncounter.{LastEncounter}
+use Rattle.answering.specs.declared.LastEncounter.the-variants.{Absent, Present}
+use Rattle.answering.specs.declared.State.{State}
+use Rattle.answering.specs.States.{startingState, withPuck, withDelayAcceleration, stateAfter}
+use Rattle.answering.specs.Replies.{settingsReply, askedAnswer, codedAnswer, freeAnswer, replyTo}
+use Rattle.sheet.specs.WholeSheet.{answersFrom, sheetAnswer}
 
 abbrev size : Answer → ℕ
 size a = length (replyBytes (Answered a))

@@ -2,17 +2,17 @@
 use mathlib.Core.Path.{_≡_, refl, ap, _∙_}
 use mathlib.Core.List.{List, [], append-nil}
 use lib.ListN.{getD}
-use Rattle.judge.specs.declared.Checked.the-variants.{Accepted}
+use Rattle.question.specs.declared.Checked.the-variants.{Accepted}
 use Rattle.judge.specs.Answers.{AnswerRecord, answers}
 use Rattle.judge.specs.Examples.{examples}
 use Rattle.judge.proofs.ExamplesHold.{examples-hold}
-use Rattle.sheet.specs.Numbers.{numberAt}
-use Rattle.sheet.specs.Records.{encounterIn, questionIn, recordsAfter}
-use Rattle.sheet.specs.States.{stateAfter}
-use Rattle.sheet.specs.Replies.{freeAnswer, replyTo}
-use Rattle.sheet.specs.AnswerBytes.{recordBytes, answersFrom}
-use Rattle.sheet.specs.SheetCheck.{faultAfter, sheetCheck}
-use Rattle.sheet.specs.WholeSheet.{sheetAnswer}
+use Rattle.record.specs.Numbers.{numberAt}
+use Rattle.record.specs.Records.{encounterIn, questionIn, recordsAfter}
+use Rattle.record.specs.SheetCheck.{faultAfter, sheetCheck}
+use Rattle.reply.specs.AnswerBytes.{recordBytes}
+use Rattle.answering.specs.States.{stateAfter}
+use Rattle.answering.specs.Replies.{freeAnswer, replyTo}
+use Rattle.sheet.specs.WholeSheet.{answersFrom, sheetAnswer}
 use Rattle.sheet.specs.Example.{exampleSheet, exampleAnswer}
 
 pub example-accepted : sheetCheck exampleSheet ≡ Accepted

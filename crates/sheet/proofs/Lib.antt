@@ -1,11 +1,7 @@
-pub mod Scan
-pub mod Writing
+pub mod AnswersAhead
 pub mod AnswerBound
-pub mod StoredWithinLimits
 pub mod RecordsInOrder
 pub mod PlainAnswers
-pub mod RefusalOrder
 pub mod WholeSheetRefusals
 pub mod AcceptedFits
-pub mod NumbersExact
 pub mod ExampleHolds

@@ -3,22 +3,22 @@ use mathlib.Core.Path.{_≡_, ap, _∙_}
 use mathlib.Core.List.{List, _∷_, _++_}
 use Prim.Native.Nat.{ℕ}
 use lib.IntN.{ℤ}
-use Rattle.judge.specs.declared.Encounter.{Encounter}
-use Rattle.judge.specs.declared.Question.{Question}
-use Rattle.judge.specs.declared.CodedQuestion.{CodedQuestion}
-use Rattle.judge.specs.Coded.{codedQuestion}
+use Rattle.question.specs.declared.Encounter.{Encounter}
+use Rattle.question.specs.declared.Question.{Question}
+use Rattle.question.specs.declared.CodedQuestion.{CodedQuestion}
+use Rattle.question.specs.Coded.{codedQuestion}
 use Rattle.judge.specs.Answers.{answer, answerRecord}
-use Rattle.sheet.specs.declared.LastEncounter.{LastEncounter}
-use Rattle.sheet.specs.declared.LastEncounter.the-variants.{Present}
-use Rattle.sheet.specs.declared.State.{State}
-use Rattle.sheet.specs.declared.Record.{Record}
-use Rattle.sheet.specs.declared.Reply.{Reply}
-use Rattle.sheet.specs.declared.Reply.the-variants.{Answered}
-use Rattle.sheet.specs.Records.{records}
-use Rattle.sheet.specs.States.{startingState, stateAfter, stateAfterAll}
-use Rattle.sheet.specs.Replies.{askedAnswer, codedAnswer, freeAnswer, replyTo}
-use Rattle.sheet.specs.AnswerBytes.{recordBytes, replyBytes, answersFrom}
-use Rattle.sheet.specs.WholeSheet.{sheetAnswer}
+use Rattle.record.specs.declared.Record.{Record}
+use Rattle.record.specs.Records.{records}
+use Rattle.reply.specs.declared.Reply.{Reply}
+use Rattle.reply.specs.declared.Reply.the-variants.{Answered}
+use Rattle.reply.specs.AnswerBytes.{recordBytes, replyBytes}
+use Rattle.answering.specs.declared.LastEncounter.{LastEncounter}
+use Rattle.answering.specs.declared.LastEncounter.the-variants.{Present}
+use Rattle.answering.specs.declared.State.{State}
+use Rattle.answering.specs.States.{startingState, stateAfter, stateAfterAll}
+use Rattle.answering.specs.Replies.{askedAnswer, codedAnswer, freeAnswer, replyTo}
+use Rattle.sheet.specs.WholeSheet.{answersFrom, sheetAnswer}
 use Rattle.sheet.proofs.RecordsInOrder.{each-record}
 
 module _ (st : State) (x : Encounter) (met : st .encounter ≡ Present x) where

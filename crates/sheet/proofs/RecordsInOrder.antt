@@ -2,13 +2,13 @@
 use mathlib.Core.Path.{_≡_, refl, sym, ap, _∙_}
 use mathlib.Core.List.{List, [], _∷_, _++_, append-assoc}
 use Prim.Native.Nat.{ℕ}
-use Rattle.sheet.specs.declared.State.{State}
-use Rattle.sheet.specs.declared.Record.{Record}
-use Rattle.sheet.specs.Records.{records}
-use Rattle.sheet.specs.States.{startingState, stateAfter, stateAfterAll}
-use Rattle.sheet.specs.Replies.{replyTo}
-use Rattle.sheet.specs.AnswerBytes.{replyBytes, answersFrom}
-use Rattle.sheet.specs.WholeSheet.{sheetAnswer}
+use Rattle.record.specs.declared.Record.{Record}
+use Rattle.record.specs.Records.{records}
+use Rattle.reply.specs.AnswerBytes.{replyBytes}
+use Rattle.answering.specs.declared.State.{State}
+use Rattle.answering.specs.States.{startingState, stateAfter, stateAfterAll}
+use Rattle.answering.specs.Replies.{replyTo}
+use Rattle.sheet.specs.WholeSheet.{answersFrom, sheetAnswer}
 
 pub answers-append : (st : State) (xs ys : List Record) → answersFrom st (xs ++ ys) ≡ answersFrom st xs ++ answersFrom (stateAfterAll st xs) ys
 unfolding answersFrom stateAfterAll

@@ -1,9 +1,2 @@
-pub mod Numbers
-pub mod Kinds
-pub mod Records
-pub mod States
-pub mod Replies
-pub mod AnswerBytes
-pub mod SheetCheck
 pub mod WholeSheet
 pub mod Example

@@ -4,14 +4,22 @@ use mathlib.Core.List.{List, [], _∷_, _++_}
 use Prim.Native.Nat.{ℕ}
 use lib.Dec.{leb}
 use lib.ListN.{length, drop}
-use Rattle.judge.specs.declared.Checked.{Checked}
+use Rattle.question.specs.declared.Checked.{Checked}
 use Rattle.judge.specs.Answers.{AnswerRecord, answers}
+use Rattle.record.specs.declared.Record.{Record}
+use Rattle.record.specs.Records.{records}
+use Rattle.record.specs.SheetCheck.{sheetCheck}
+use Rattle.reply.specs.AnswerBytes.{replyBytes}
+use Rattle.answering.specs.declared.State.{State}
+use Rattle.answering.specs.States.{startingState, stateAfter}
+use Rattle.answering.specs.Replies.{replyTo}
 use Rattle.sheet.specs.declared.Outcome.{Outcome}
 use Rattle.sheet.specs.declared.Outcome.the-variants.{Accepted, Refused}
-use Rattle.sheet.specs.Records.{records}
-use Rattle.sheet.specs.States.{startingState}
-use Rattle.sheet.specs.AnswerBytes.{answersFrom}
-use Rattle.sheet.specs.SheetCheck.{sheetCheck}
+
+-- the answer to records in order, each in the state that those before it left
+unfoldable pub answersFrom : State → List Record → List ℕ
+answersFrom state [] = []
+answersFrom state (first ∷ rest) = replyBytes (replyTo state first) ++ answersFrom (stateAfter state first) rest
 
 -- the answer to a sheet's records
 abbrev pub sheetAnswer : List ℕ → List ℕ

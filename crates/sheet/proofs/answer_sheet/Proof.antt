@@ -1,16 +1,16 @@
 -- `sheet::answer_sheet` meets its contract: by the check of the sheet and the room; an accepted answer, stored, is followed by the area's own bytes.
 use mathlib.Core.Path.{_≡_, sym, ap, _∙_}
 use mathlib.Core.List.{List, _++_}
-use Prim.Native.Nat.{ℕ, _≤_, _<_}
+use Prim.Native.Nat.{ℕ, _≤_}
 use native.Mathlib.Nat.{zero-add}
 use native.Mathlib.Omega.{arith}
-use borrow.Author.Tests.{le-leb, lt-leb}
+use borrow.Author.Tests.{leb-true}
 use lib.ListN.{length, drop}
 use lib.Seq.{sets, sets-eq}
-use Rattle.judge.specs.declared.Checked.{Checked}
-use Rattle.judge.proofs.Branches.{picks-yes, picks-no}
+use Rattle.question.specs.declared.Checked.{Checked}
+use Rattle.integers.proofs.Branches.{picks-yes, picks-no}
+use Rattle.record.specs.SheetCheck.{sheetCheck}
 use Rattle.sheet.specs.declared.Outcome.{Outcome}
-use Rattle.sheet.specs.SheetCheck.{sheetCheck}
 use Rattle.sheet.specs.WholeSheet.{sheetAnswer, outcomeFor, outcome, areaFor, areaAfter, outcomeRecord}
 use borrow.Author.Needs.{needs}
 use Rattle.sheet.proofs.answer_sheet.Statement.{statement}
@@ -36,28 +36,18 @@ enum-known-number c = search needs
 enum-told : tie.Need-enum-told
 enum-told c = search needs
 
-sheet-answer-length-requires : tie.Need-sheet-answer-length-requires
-sheet-answer-length-requires c κs = cc
+answer-fits-requires : tie.Need-answer-fits-requires
+answer-fits-requires c κs = cc
 
--- a byte is written only after the scan and the test of the length
+-- a byte is written only after the scan and the test of the room
 write-sheet-answer-requires : tie.Need-write-sheet-answer-requires
-write-sheet-answer-requires c κs = (cc, omega arith)
+write-sheet-answer-requires c κs = (cc, leb-true _ _ cc)
 
 checked : (c : tie.After-enum-told) → sheetCheck (c .before .before .before .before .before .args .sheet .now) ≡ Checked.Accepted
 checked c = cc
 
 returns : tie.Need-returns
 returns c =
-    let n = c .before in
-    let a = n .before in
-    let z = a .before .before .before .before .before in
-    let s = z .args .sheet .now in
-    let area = z .args .area .now in
-    let short : length area < length (sheetAnswer s) = omega (arith, n .sheet-answer-length .ensures, c .if1 .taken) in
-    promised s area (by-check s area (checked a) ∙ picks-no _ _ _ (lt-leb _ _ short))
-
-returns-2 : tie.Need-returns-2
-returns-2 c =
     let n = c .before in
     let k = n .before .before in
     let z = k .before .before .before in
@@ -68,19 +58,28 @@ returns-2 c =
 same-length : tie.Need-same-length
 same-length c = search needs
 
-returns-3 : tie.Need-returns-3
-returns-3 c =
+returns-2 : tie.Need-returns-2
+returns-2 c =
     let w = c .before .before in
-    let e = w .before .before in
-    let n = e .before in
+    let t = w .before .before in
+    let n = t .before in
     let a = n .before in
     let z = a .before .before .before .before .before in
     let s = z .args .sheet .now in
     let area = z .args .area .now in
-    let needed = n .sheet-answer-length .ensures in
-    let fits : length (sheetAnswer s) ≤ length area = omega (arith, needed, e .if1 .left) in
-    let p = promised s area (by-check s area (checked a) ∙ picks-yes _ _ _ (le-leb _ _ fits)) in
-    (ap (λ (k : ℕ). outcomeRecord (Outcome.Accepted k)) needed ∙ p .0, w .write-sheet-answer .ensures ∙ stored-answer (sheetAnswer s) area fits ∙ p .1)
+    let fits = sym (n .answer-fits .ensures) ∙ t .if1 .taken in
+    let p = promised s area (by-check s area (checked a) ∙ picks-yes _ _ _ fits) in
+    let written = w .write-sheet-answer .ensures in
+    (ap (λ (k : ℕ). outcomeRecord (Outcome.Accepted k)) (written .0) ∙ p .0, written .1 ∙ stored-answer (sheetAnswer s) area (leb-true _ _ fits) ∙ p .1)
+
+returns-3 : tie.Need-returns-3
+returns-3 c =
+    let n = c .before in
+    let a = n .before in
+    let z = a .before .before .before .before .before in
+    let s = z .args .sheet .now in
+    let area = z .args .area .now in
+    promised s area (by-check s area (checked a) ∙ picks-no _ _ _ (sym (n .answer-fits .ensures) ∙ c .if1 .left))
 
 pub answer-sheet-spec : {M : Type 1} → statement M
 answer-sheet-spec =
@@ -89,9 +88,9 @@ answer-sheet-spec =
     check-sheet-requires
     enum-known-number
     enum-told
-    sheet-answer-length-requires
-    returns
+    answer-fits-requires
     write-sheet-answer-requires
-    returns-2
+    returns
     same-length
+    returns-2
     returns-3)

@@ -3,14 +3,14 @@ use mathlib.Core.Path.{_≡_, sym, ap, _∙_}
 use Prim.Native.Nat.{ℕ, _+_, _-_, _≤_}
 use native.Mathlib.Omega.{arith}
 use lib.ListN.{length, drop}
-use Rattle.judge.specs.declared.Checked.the-variants.{Accepted}
-use Rattle.sheet.specs.declared.State.{State}
-use Rattle.sheet.specs.Records.{records}
-use Rattle.sheet.specs.States.{stateAfter}
-use Rattle.sheet.specs.AnswerBytes.{answersFrom}
-use Rattle.sheet.specs.SheetCheck.{faultAfter}
-use Rattle.sheet.specs.WholeSheet.{sheetAnswer}
-use Rattle.sheet.proofs.Scan.{nextAt, whole-record, answers-done, answers-length-here, accepted-sheet}
+use Rattle.question.specs.declared.Checked.the-variants.{Accepted}
+use Rattle.record.specs.Records.{records}
+use Rattle.record.specs.SheetCheck.{faultAfter}
+use Rattle.record.proofs.Scan.{nextAt, whole-record, accepted-sheet}
+use Rattle.answering.specs.declared.State.{State}
+use Rattle.answering.specs.States.{stateAfter}
+use Rattle.sheet.specs.WholeSheet.{answersFrom, sheetAnswer}
+use Rattle.sheet.proofs.AnswersAhead.{answers-done, answers-length-here}
 use Rattle.sheet.proofs.AnswerBound.{sheet-answer-short}
 use borrow.Author.Needs.{needs}
 use Rattle.sheet.proofs.sheet_answer_length.Statement.{statement}

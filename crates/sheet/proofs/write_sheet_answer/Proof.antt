@@ -1,26 +1,28 @@
--- `sheet::write_sheet_answer` meets its contract. The loop's invariant: the remaining answer, stored from the place on, makes the whole.
+-- `sheet::write_sheet_answer` meets its contract. The loop's invariant: the remaining answer, stored from the place on, makes the whole, and so does its
+-- length with the number of bytes written.
 use mathlib.Core.Path.{_≡_, refl, sym, ap, _∙_}
 use Prim.Native.Nat.{_+_, _-_, _≤_}
 use native.Mathlib.Omega.{arith}
 use lib.ListN.{length, drop}
-use Rattle.judge.specs.declared.Checked.the-variants.{Accepted}
+use Rattle.question.specs.declared.Checked.the-variants.{Accepted}
 use lib.Seq.{sets, length-sets}
-use Rattle.sheet.specs.declared.State.{State}
-use Rattle.sheet.specs.Records.{records}
-use Rattle.sheet.specs.States.{stateAfter}
-use Rattle.sheet.specs.Replies.{replyTo}
-use Rattle.sheet.specs.AnswerBytes.{replyBytes, answersFrom}
-use Rattle.sheet.specs.SheetCheck.{faultAfter}
-use Rattle.sheet.specs.WholeSheet.{sheetAnswer}
-use Rattle.sheet.proofs.Scan.{nextAt, whole-record, answers-done, answers-here, answers-length-here, accepted-sheet}
-use Rattle.sheet.proofs.Writing.{sets-append}
+use Rattle.record.specs.Records.{records}
+use Rattle.record.specs.SheetCheck.{faultAfter}
+use Rattle.record.proofs.Scan.{nextAt, whole-record, accepted-sheet}
+use Rattle.reply.specs.AnswerBytes.{replyBytes}
+use Rattle.reply.proofs.Writing.{sets-append}
+use Rattle.answering.specs.declared.State.{State}
+use Rattle.answering.specs.States.{stateAfter}
+use Rattle.answering.specs.Replies.{replyTo}
+use Rattle.sheet.specs.WholeSheet.{answersFrom, sheetAnswer}
+use Rattle.sheet.proofs.AnswersAhead.{answers-done, answers-here, answers-length-here}
 use borrow.Author.Needs.{needs}
 use Rattle.sheet.proofs.write_sheet_answer.Statement.{statement}
 use Rattle.sheet.proofs.write_sheet_answer.Tie as tie
 
 abbrev Inv-loop : tie.InvT-loop
 Inv-loop sheet area₀ place₀ written₀ state₀ area place written state =
-    (place ≤ length sheet) × (faultAfter 0 (drop place sheet) ≡ Accepted) × (written + length (answersFrom state (records (drop place sheet))) ≤ length area)
+    (place ≤ length sheet) × (faultAfter 0 (drop place sheet) ≡ Accepted) × (written + length (answersFrom state (records (drop place sheet))) ≡ length (sheetAnswer sheet))
     × (sets area₀ 0 (sheetAnswer sheet) ≡ sets area written (answersFrom state (records (drop place sheet)))) × (length area ≡ length area₀)
 
 abbrev μ-loop : tie.MeasureT-loop
@@ -36,7 +38,7 @@ loop-holds c =
     let e = c .starting-state .ensures in (
       omega arith,
       accepted-sheet s (z .pre .0) .1,
-      rw e (omega (arith, z .pre .1)),
+      ap (λ (st : State). 0 + length (answersFrom st (records s))) e ∙ omega arith,
       ap (λ (st : State). sets (z .args .area .now) 0 (answersFrom st (records s))) (sym e),
       refl,
     )
@@ -68,7 +70,7 @@ write-reply-requires : tie.Need-write-reply-requires Inv-loop μ-loop
 write-reply-requires c κs =
     let p = c .before in
     let l = p .before .before .before in
-    omega (arith, rest-length p, ap length (p .reply-to .ensures), l .loop .inv .2)
+    omega (arith, rest-length p, ap length (p .reply-to .ensures), l .loop .inv .2, l .loop .inv .4, l .before .before .before .before .pre .1)
 
 reply-length-requires : tie.Need-reply-length-requires Inv-loop μ-loop
 reply-length-requires c κs = search needs
@@ -77,7 +79,7 @@ add-written : tie.Need-add-written Inv-loop μ-loop
 add-written c =
     let p = c .before .before .before .before .before in
     let l = p .before .before .before in
-    omega (arith, rest-length p, c .reply-length .ensures, ap length (p .reply-to .ensures), l .loop .inv .2)
+    omega (arith, rest-length p, c .reply-length .ensures, ap length (p .reply-to .ensures), l .loop .inv .2, l .loop .inv .4, l .before .before .before .before .pre .1)
 
 state-after-requires : tie.Need-state-after-requires Inv-loop μ-loop
 state-after-requires c κs = search needs
@@ -104,7 +106,7 @@ loop-again c =
     rw (c .next-at .ensures, c .before .state-after .ensures, count, stored) (
       whole .0,
       whole .1,
-      simp length-sets (omega (arith, rest-length p, l .loop .inv .2)),
+      omega (arith, rest-length p, l .loop .inv .2),
       l .loop .inv .3 ∙ ap (sets (l .loop .area) (l .loop .written)) (answers-here s (l .loop .place) (i .loop-test .taken) (l .loop .state) (r .record-at .ensures))
           ∙ sets-append (l .loop .area) (l .loop .written) bytes _,
       length-sets (l .loop .area) (l .loop .written) bytes ∙ l .loop .inv .4,
@@ -117,7 +119,8 @@ returns : tie.Need-returns Inv-loop μ-loop
 returns c =
     let l = c .before in
     let s = l .before .before .before .before .args .sheet .now in
-    sym (l .loop .inv .3 ∙ ap (sets (l .loop .area) (l .loop .written)) (answers-done s (l .loop .place) (l .loop .state) (c .loop-test .left)))
+    let none = answers-done s (l .loop .place) (l .loop .state) (c .loop-test .left) in
+    (omega (arith, l .loop .inv .2, ap length none), sym (l .loop .inv .3 ∙ ap (sets (l .loop .area) (l .loop .written)) none))
 
 pub write-sheet-answer-spec : {M : Type 1} → statement M
 write-sheet-answer-spec =

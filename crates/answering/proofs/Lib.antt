@@ -1,0 +1,2 @@
+pub mod StoredWithinLimits
+pub mod RefusalOrder
