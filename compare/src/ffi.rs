@@ -57,12 +57,31 @@ unsafe extern "C" {
     ) -> SheetResult;
 }
 
-/// The judge's answer to plain numbers.
+/// A function with the judge's interface for plain numbers.
+type Plain = unsafe extern "C" fn(
+    i64,
+    i64,
+    i64,
+    i64,
+    i64,
+    i64,
+    i64,
+    i64,
+    i64,
+    i64,
+    i64,
+    i64,
+    i64,
+    i64,
+    i64,
+    i64,
+) -> JudgeResult;
+
 #[inline]
-pub fn judge(q: &Question) -> JudgeResult {
-    // SAFETY: sixteen numbers by value; the judge takes any and writes no memory.
+fn asked(plain: Plain, q: &Question) -> JudgeResult {
+    // SAFETY: sixteen numbers by value; both functions take any and write no memory.
     unsafe {
-        judge_plain(
+        plain(
             q.r,
             q.h,
             q.c,
@@ -83,12 +102,96 @@ pub fn judge(q: &Question) -> JudgeResult {
     }
 }
 
+/// The judge's answer to plain numbers.
+#[inline]
+pub fn judge(q: &Question) -> JudgeResult {
+    asked(judge_plain, q)
+}
+
 /// The judge's answer to a sheet, written to the front of the area.
 #[cfg(feature = "sheets")]
 #[inline]
 pub fn answer_sheet(sheet: &[u8], area: &mut [u8]) -> SheetResult {
     // SAFETY: both slices are valid for their lengths and do not overlap.
     unsafe { answer_sheet_bytes(sheet.as_ptr(), sheet.len(), area.as_mut_ptr(), area.len()) }
+}
+
+/// The independent implementation behind the judge's interface, so that both are measured alike: the
+/// same numbers in, the same struct out, and a name by which callgrind finds the call.
+pub mod independent_entry {
+    use super::{JudgeResult, Question, asked};
+    use crate::independent;
+
+    #[allow(clippy::too_many_arguments)]
+    #[inline(never)]
+    #[unsafe(no_mangle)]
+    extern "C" fn independent_plain(
+        r: i64,
+        h: i64,
+        c: i64,
+        v: i64,
+        vi: i64,
+        p: i64,
+        k: i64,
+        e: i64,
+        sides: i64,
+        sense: i64,
+        target: i64,
+        upper_target: i64,
+        strength: i64,
+        upper_strength: i64,
+        delay: i64,
+        limit: i64,
+    ) -> JudgeResult {
+        JudgeResult::of(&independent::judge(&Question {
+            r,
+            h,
+            c,
+            v,
+            vi,
+            p,
+            k,
+            e,
+            sides,
+            sense,
+            target,
+            upper_target,
+            strength,
+            upper_strength,
+            delay,
+            limit,
+        }))
+    }
+
+    #[inline]
+    pub fn judge(q: &Question) -> JudgeResult {
+        asked(independent_plain, q)
+    }
+
+    #[cfg(feature = "sheets")]
+    #[inline(never)]
+    #[unsafe(no_mangle)]
+    extern "C" fn independent_sheet_bytes(
+        sheet: *const u8,
+        sheet_length: usize,
+        area: *mut u8,
+        area_length: usize,
+    ) -> super::SheetResult {
+        // SAFETY: `answer_sheet` below is the only caller, and passes two slices.
+        let (sheet, area) = unsafe {
+            (
+                std::slice::from_raw_parts(sheet, sheet_length),
+                std::slice::from_raw_parts_mut(area, area_length),
+            )
+        };
+        super::SheetResult::of(crate::sheet::answer_into(sheet, area))
+    }
+
+    #[cfg(feature = "sheets")]
+    #[inline]
+    pub fn answer_sheet(sheet: &[u8], area: &mut [u8]) -> super::SheetResult {
+        independent_sheet_bytes(sheet.as_ptr(), sheet.len(), area.as_mut_ptr(), area.len())
+    }
 }
 
 impl JudgeResult {
