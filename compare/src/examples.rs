@@ -176,6 +176,89 @@ pub fn marked() -> Vec<(&'static str, Question, Answer)> {
     ]
 }
 
+/// An encounter that the article describes, and questions that differ from it in one point.
+pub struct ArticleExample {
+    pub name: &'static str,
+    pub question: Question,
+    pub answer: Answer,
+    pub beside: Vec<(&'static str, Question, Answer)>,
+}
+
+/// Figure 14: DNC from the state in its caption, followed at once.
+pub fn figure_14() -> ArticleExample {
+    let question = Question {
+        r: 240_000,
+        h: 36_000,
+        c: 12_000,
+        v: 1_980,
+        vi: -1_500,
+        sense: 0,
+        target: 0,
+        strength: 483,
+        ..BASE
+    };
+    let original = Question {
+        sense: 1,
+        target: 1_980,
+        ..question
+    };
+    ArticleExample {
+        name: "Figure 14",
+        question,
+        answer: Answer::Conflict(Time {
+            seconds: 17,
+            remainder: 1,
+            divisor: 2,
+        }),
+        beside: vec![(
+            "the original path (climb to 1,980, the speed it has)",
+            original,
+            CLEAR,
+        )],
+    }
+}
+
+/// Section 7's edge, with M15's numbers and the intruder one grain more than k above.
+pub fn section_7() -> ArticleExample {
+    let question = Question {
+        r: -30_000,
+        h: 6_001,
+        c: 10_000,
+        ..BASE
+    };
+    ArticleExample {
+        name: "Section 7",
+        question,
+        answer: at(0),
+        beside: vec![
+            (
+                "M15, the intruder as far below: h -6,000",
+                Question {
+                    h: -6_000,
+                    ..question
+                },
+                at(0),
+            ),
+            (
+                "one grain lower still: h -6,001",
+                Question {
+                    h: -6_001,
+                    ..question
+                },
+                CLEAR,
+            ),
+            (
+                "one grain past the edge: r -30,001",
+                Question {
+                    r: -30_001,
+                    ..question
+                },
+                CLEAR,
+            ),
+        ],
+    }
+}
+
 /// A row of the article's Table 1 in plain numbers.
 pub struct Table1 {
     pub code: u8,

@@ -34,6 +34,11 @@ const ZERO: Ratio = Ratio::ZERO;
 
 /// Figure 3's explicit formulation, L_expl.
 fn l_expl(fixed: Fixed, r: Ratio, h: Ratio, v: Ratio, v_lo: Ratio) -> bool {
+    l_failing(fixed, r, h, v, v_lo).is_none()
+}
+
+/// The first case of L_expl whose bound does not hold.
+fn l_failing(fixed: Fixed, r: Ratio, h: Ratio, v: Ratio, v_lo: Ratio) -> Option<u8> {
     let Fixed {
         rv,
         rp,
@@ -64,12 +69,22 @@ fn l_expl(fixed: Fixed, r: Ratio, h: Ratio, v: Ratio, v_lo: Ratio) -> bool {
     let bound6 = (rv == ZERO && r > rp)
         || w * rv * h < w * v_lo * (r + rp) - quotient(rv * square(missing), 2 * a_lo) - rv * hp;
 
-    let at_least_level = implies(case1, bound1)
-        && implies(case2, bound2)
-        && implies(case3, bound3)
-        && implies(case4, bound4);
-    let below_level = implies(case5, bound5) && implies(case6, bound6);
-    implies(w * v_lo >= ZERO, at_least_level) && implies(w * v_lo < ZERO, below_level)
+    let at_least_level = [
+        (1, case1, bound1),
+        (2, case2, bound2),
+        (3, case3, bound3),
+        (4, case4, bound4),
+    ];
+    let below_level = [(5, case5, bound5), (6, case6, bound6)];
+    let joined = if w * v_lo >= ZERO {
+        &at_least_level[..]
+    } else {
+        &below_level[..]
+    };
+    let failing = joined
+        .iter()
+        .find(|(_, case, bound)| !implies(*case, *bound));
+    failing.map(|(number, ..)| *number)
 }
 
 /// Figure 5's explicit formulation, D_expl.
@@ -134,9 +149,15 @@ pub fn figure5_safe(q: &Question) -> Option<bool> {
 
 /// Whether Figure 3 calls an accepted question safe; none where the figure does not apply.
 pub fn figure3_safe(q: &Question) -> Option<bool> {
+    figure3_failing(q).map(|failing| failing.is_none())
+}
+
+/// The first case of Figure 3 whose bound an accepted question misses; none where the figure does
+/// not apply.
+pub fn figure3_failing(q: &Question) -> Option<Option<u8>> {
     if q.sides != 1 || q.limit != NO_LIMIT || q.delay != 0 {
         return None;
     }
     let (fixed, [_, _, r, h, v, v_lo]) = parts(q);
-    Some(l_expl(fixed, r, h, v, v_lo))
+    Some(l_failing(fixed, r, h, v, v_lo))
 }

@@ -6,10 +6,10 @@ pub mod check;
 pub mod edges;
 pub mod exact;
 pub mod examples;
-#[cfg(feature = "judge")]
 pub mod ffi;
 pub mod figures;
 pub mod generate;
 pub mod independent;
 pub mod motion;
+pub mod rattle;
 pub mod sheet;

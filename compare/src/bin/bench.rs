@@ -1,61 +1,103 @@
 //! bench: a table of verdicts and sheet bytes per second, the proved judge and the independent
-//! implementation on the same inputs.
+//! implementation behind the same interface, on the same inputs.
 //!
-//! bench only judge|independent CLASS PASSES: one implementation, PASSES times over the inputs of
-//! one class, and nothing measured: for counting instructions.
+//! bench classes: a line for each class whose instructions are counted: its group, its name, and the
+//! verdicts (or sheet bytes) of one pass.
 //!
-//! bench classes: the names of the classes, each with the verdicts (or sheet bytes) of one pass.
+//! bench only judge|independent CLASS: one implementation, once over the inputs of one class.
 //!
 //! Sheets want the feature `sheets`.
 
 use compare::examples::{BASE, TWO};
-use compare::ffi;
+use compare::ffi::{self, independent_entry};
 use compare::generate::Random;
-use compare::independent::{self, Accepted, Moment, NO_LIMIT, Question};
+use compare::independent::{Accepted, Moment, NO_LIMIT, Question};
 use std::hint::black_box;
 use std::process::ExitCode;
 use std::time::{Duration, Instant};
 
-const INPUTS: usize = 4_096;
-
 /// A class of questions, made so that each gets a verdict.
 struct Class {
     name: &'static str,
+    inputs: usize,
     make: fn(&mut Random) -> Question,
     /// What a drawn question must meet besides being accepted.
     wanted: fn(&Accepted) -> bool,
 }
 
+const fn class(
+    name: &'static str,
+    make: fn(&mut Random) -> Question,
+    wanted: fn(&Accepted) -> bool,
+) -> Class {
+    Class {
+        name,
+        inputs: 4_096,
+        make,
+        wanted,
+    }
+}
+
+/// Few, as each call is counted by itself, for the greatest count.
+const fn search(
+    name: &'static str,
+    make: fn(&mut Random) -> Question,
+    wanted: fn(&Accepted) -> bool,
+) -> Class {
+    Class {
+        name,
+        inputs: 256,
+        make,
+        wanted,
+    }
+}
+
+/// The first three have no search.
 const CLASSES: [Class; 5] = [
-    Class {
-        name: "one-sided",
-        make: one_sided,
-        wanted: |x| x.window().is_some(),
-    },
-    Class {
-        name: "two-sided",
-        make: two_sided,
-        wanted: |x| x.window().is_some(),
-    },
-    Class {
-        name: "delayed",
-        make: delayed,
-        wanted: |x| x.window().is_some(),
-    },
-    Class {
-        name: "no-end-lower",
-        make: no_end_lower,
-        wanted: |x| matches!(x.lower_shown(), Some((_, Moment::WholeSecond))),
-    },
-    Class {
-        name: "no-end-upper",
-        make: no_end_upper,
-        wanted: |x| {
-            x.upper
-                .is_some_and(|upper| matches!(x.upper_shown(upper), Some((_, Moment::WholeSecond))))
-        },
-    },
+    class("one-sided", one_sided, |x| x.window().is_some()),
+    class("two-sided", two_sided, |x| x.window().is_some()),
+    class("delayed", delayed, |x| x.window().is_some()),
+    class("no-end-lower", no_end_lower, |x| lower_second(x).is_some()),
+    class("no-end-upper", no_end_upper, |x| upper_second(x).is_some()),
 ];
+
+/// Searches without an end by their first conflicting second.
+const SEARCHES: [Class; 6] = [
+    search("lower-100", no_end_lower, |x| near(lower_second(x), 100)),
+    search("lower-10000", no_end_lower, |x| {
+        near(lower_second(x), 10_000)
+    }),
+    search("lower-1000000", far_lower, |x| {
+        near(lower_second(x), 1_000_000)
+    }),
+    search("upper-100", no_end_upper, |x| near(upper_second(x), 100)),
+    search("upper-10000", no_end_upper, |x| {
+        near(upper_second(x), 10_000)
+    }),
+    search("upper-1000000", far_upper, |x| {
+        near(upper_second(x), 1_000_000)
+    }),
+];
+
+/// The second that a search finds, if there is one.
+fn lower_second(x: &Accepted) -> Option<i128> {
+    match x.lower_shown() {
+        Some((t, Moment::WholeSecond)) => Some(t.floor()),
+        _ => None,
+    }
+}
+
+fn upper_second(x: &Accepted) -> Option<i128> {
+    match x.upper.and_then(|upper| x.upper_shown(upper)) {
+        Some((t, Moment::WholeSecond)) => Some(t.floor()),
+        _ => None,
+    }
+}
+
+/// Within a factor of √2 or so.
+fn near(second: Option<i128>, wanted: i128) -> bool {
+    second.is_some_and(|second| 7 * wanted <= 10 * second && 10 * second <= 14 * wanted)
+}
 
 fn one_sided(random: &mut Random) -> Question {
     Question {
@@ -120,10 +162,40 @@ fn no_end_upper(random: &mut Random) -> Question {
     }
 }
 
+/// Away from the intruder for a minute, then towards it by a grain a second.
+fn far_lower(random: &mut Random) -> Question {
+    let w = random.pick(&[1, -1]);
+    Question {
+        h: -w * random.between(30_000, 480_000),
+        v: w * random.between(0, 10_000),
+        vi: -w * 9_999,
+        e: 0,
+        sense: (w + 1) / 2,
+        target: -w * 10_000,
+        delay: 60,
+        ..BASE
+    }
+}
+
+/// Away from the intruder, turned by a grain/s², then towards it by a grain a second.
+fn far_upper(random: &mut Random) -> Question {
+    let w = random.pick(&[1, -1]);
+    Question {
+        h: w * random.between(30_000, 480_000),
+        v: -w * random.between(0, 1_500),
+        sense: (w + 1) / 2,
+        target: -w,
+        upper_target: w,
+        strength: 1,
+        upper_strength: 1,
+        ..TWO
+    }
+}
+
 fn questions(class: &Class) -> Vec<Question> {
     let mut random = Random::new(2_026);
-    let mut found = Vec::with_capacity(INPUTS);
-    while found.len() < INPUTS {
+    let mut found = Vec::with_capacity(class.inputs);
+    while found.len() < class.inputs {
         let q = (class.make)(&mut random);
         if Accepted::of(&q).is_ok_and(|x| (class.wanted)(&x)) {
             found.push(q);
@@ -149,7 +221,7 @@ fn pass_questions(which: Which, questions: &[Question]) {
         }
         Which::Independent => {
             for q in questions {
-                black_box(independent::judge(black_box(q)));
+                black_box(independent_entry::judge(black_box(q)));
             }
         }
     }
@@ -182,7 +254,7 @@ fn shortest(mut pass: impl FnMut(Which)) -> [Duration; 2] {
 fn line(name: &str, unit: &str, amount: usize, [judge, independent]: [Duration; 2]) {
     let rate = |time: Duration| amount as f64 / time.as_secs_f64();
     println!(
-        "{name:<14}{unit:<12}{:>16.0}{:>16.0}{:>10.2}",
+        "{name:<16}{unit:<12}{:>14.0}{:>14.0}{:>8.2}",
         rate(judge),
         rate(independent),
         rate(judge) / rate(independent)
@@ -191,41 +263,54 @@ fn line(name: &str, unit: &str, amount: usize, [judge, independent]: [Duration; 
 
 fn table() {
     println!(
-        "{:<14}{:<12}{:>16}{:>16}{:>10}",
-        "class", "unit", "judge", "independent", "ratio"
+        "{:<16}{:<12}{:>14}{:>14}{:>8}",
+        "class", "per second", "judge", "independent", "ratio"
     );
-    for class in &CLASSES {
+    let (mut amount, mut spent) = (0, [Duration::ZERO; 2]);
+    for (i, class) in CLASSES.iter().enumerate() {
         let questions = questions(class);
         let times = shortest(|which| pass_questions(which, &questions));
-        line(class.name, "verdicts", INPUTS, times);
+        line(class.name, "verdicts", class.inputs, times);
+        if i < 3 {
+            amount += class.inputs;
+            spent = [spent[0] + times[0], spent[1] + times[1]];
+        }
+        if i == 2 {
+            line("these three", "verdicts", amount, spent);
+        }
     }
     #[cfg(feature = "sheets")]
     sheets::table();
 }
 
-/// The class of sheets.
+/// Sheets by their length.
 #[cfg(feature = "sheets")]
 mod sheets {
     use super::*;
-    use compare::{generate, sheet};
+    use compare::generate;
 
-    pub const NAME: &str = "sheets";
+    pub const LENGTHS: [usize; 4] = [1_024, 2_048, 4_096, 8_192];
+    /// Of the sheets of one length together.
+    pub const BYTES: usize = 131_072;
     const AREA: usize = 65_536;
 
-    /// Sixteen sheets near the largest length: encounters, coded and free questions of every class but
-    /// the last two.
-    fn inputs() -> Vec<Vec<u8>> {
+    /// Encounters, coded and free questions of the first three classes. Each 1,024 bytes are filled up
+    /// with coded ones, so that every length has the same mixture.
+    fn inputs(length: usize) -> Vec<Vec<u8>> {
         let mut random = Random::new(2_026);
         let mut found = Vec::new();
-        while found.len() < 16 {
+        while found.len() * length < BYTES {
             let mut sheet = Vec::new();
-            while sheet.len() + 48 <= sheet::LONGEST_SHEET {
+            while sheet.len() < length {
                 let make = random.pick(&[one_sided, two_sided, delayed]);
                 let q = make(&mut random);
-                generate::encounter_record(&mut sheet, &q);
+                if sheet.len() % 1_024 + 48 <= 1_024 {
+                    generate::encounter_record(&mut sheet, &q);
+                    generate::free_record(&mut sheet, &q);
+                }
                 generate::coded_record(&mut sheet, random.between(1, 16) as u8, q.limit);
-                generate::free_record(&mut sheet, &q);
             }
+            assert!(sheet.len() == length);
             found.push(sheet);
         }
         found
@@ -234,65 +319,59 @@ mod sheets {
     #[inline(never)]
     fn pass(which: Which, sheets: &[Vec<u8>], area: &mut [u8]) {
         for sheet in sheets {
-            match which {
-                Which::Judge => {
-                    let result = ffi::answer_sheet(black_box(sheet), area);
-                    assert!(result.refusal == 0);
-                }
-                Which::Independent => {
-                    let result = sheet::answer_into(black_box(sheet), area);
-                    assert!(result.is_ok());
-                }
-            }
+            let result = match which {
+                Which::Judge => ffi::answer_sheet(black_box(sheet), area),
+                Which::Independent => independent_entry::answer_sheet(black_box(sheet), area),
+            };
+            assert!(result.refusal == 0);
             black_box(&mut *area);
         }
     }
 
-    pub fn bytes() -> usize {
-        inputs().iter().map(Vec::len).sum()
-    }
-
     pub fn table() {
-        let sheets = inputs();
         let mut area = vec![0; AREA];
-        let times = shortest(|which| pass(which, &sheets, &mut area));
-        line(NAME, "sheet bytes", bytes(), times);
+        for length in LENGTHS {
+            let sheets = inputs(length);
+            let times = shortest(|which| pass(which, &sheets, &mut area));
+            line(&format!("sheets-{length}"), "sheet bytes", BYTES, times);
+        }
     }
 
-    pub fn only(which: Which, passes: u32) {
-        let sheets = inputs();
-        let mut area = vec![0; AREA];
-        for _ in 0..passes {
-            pass(which, &sheets, &mut area);
-        }
+    pub fn only(which: Which, length: usize) {
+        pass(which, &inputs(length), &mut vec![0; AREA]);
     }
 }
 
 fn classes() {
-    for class in &CLASSES {
-        println!("{} {INPUTS}", class.name);
+    for (i, class) in CLASSES.iter().enumerate() {
+        let group = if i < 3 { "plain" } else { "no-end" };
+        println!("{group} {} {}", class.name, class.inputs);
     }
     #[cfg(feature = "sheets")]
-    println!("{} {}", sheets::NAME, sheets::bytes());
+    for length in sheets::LENGTHS {
+        println!("sheets sheets-{length} {}", sheets::BYTES);
+    }
+    for class in &SEARCHES {
+        println!("search {} {}", class.name, class.inputs);
+    }
 }
 
-fn only(which: &str, class: &str, passes: &str) -> Option<()> {
+fn only(which: &str, name: &str) -> Option<()> {
     let which = match which {
         "judge" => Which::Judge,
         "independent" => Which::Independent,
         _ => return None,
     };
-    let passes: u32 = passes.parse().ok()?;
     #[cfg(feature = "sheets")]
-    if class == sheets::NAME {
-        sheets::only(which, passes);
+    if let Some(length) = name.strip_prefix("sheets-") {
+        sheets::only(which, length.parse().ok()?);
         return Some(());
     }
-    let class = CLASSES.iter().find(|known| known.name == class)?;
-    let questions = questions(class);
-    for _ in 0..passes {
-        pass_questions(which, &questions);
-    }
+    let class = CLASSES
+        .iter()
+        .chain(&SEARCHES)
+        .find(|known| known.name == name)?;
+    pass_questions(which, &questions(class));
     Some(())
 }
 
@@ -308,11 +387,11 @@ fn main() -> ExitCode {
             classes();
             Some(())
         }
-        ["only", which, class, passes] => only(which, class, passes),
+        ["only", which, class] => only(which, class),
         _ => None,
     };
     if done.is_none() {
-        eprintln!("bench | bench classes | bench only judge|independent CLASS PASSES");
+        eprintln!("bench | bench classes | bench only judge|independent CLASS");
         return ExitCode::from(2);
     }
     ExitCode::SUCCESS
