@@ -174,16 +174,13 @@ fn from_end(side: Side, s: SensedQuestion) -> Moment
     }
 }
 
-// From a turning instant t: the path rises from there on, so where it has turned by the window's start, or has none at t, no later time has a conflict.
-fn from_lowest(s: SensedQuestion, start: Instant, t: Instant) -> Moment
+// At a turning instant t the path is at its lowest: where it has no conflict there, no later time has one.
+fn from_lowest(s: SensedQuestion, t: Instant) -> Moment
     requires { ⌜ Sizes s ⌝ }
     requires { ⌜ Opened s × Tried Lower s ⌝ }
-    requires { ⌜ (start ≡ windowStart s) × (turningInstant (q s) (a s) (d s) (u-d s) ≡ At t) ⌝ }
+    requires { ⌜ turningInstant (q s) (a s) (d s) (u-d s) ≡ At t ⌝ }
     ensures { λ r. ⌜ r ≡ shownFrom Lower s (t ∷ listed (windowEnd s)) ⌝ }
 {
-    if no_later(t, start) {
-        return Moment::Never;
-    }
     if !in_window(s, t.n, t.m) {
         return from_end(Side::Lower, s);
     }
@@ -193,19 +190,7 @@ fn from_lowest(s: SensedQuestion, start: Instant, t: Instant) -> Moment
     Moment::Never
 }
 
-fn from_turning(s: SensedQuestion, start: Instant) -> Moment
-    requires { ⌜ Sizes s ⌝ }
-    requires { ⌜ Opened s × Tried Lower s ⌝ }
-    requires { ⌜ start ≡ windowStart s ⌝ }
-    ensures { λ t. ⌜ t ≡ shownFrom Lower s (listed (turningInstant (q s) (a s) (d s) (u-d s)) ++ listed (windowEnd s)) ⌝ }
-{
-    let turning = turning_instant(s);
-    match turning {
-        Moment::Never => from_end(Side::Lower, s),
-        Moment::At(t) => from_lowest(s, start, t),
-    }
-}
-
+// A path that has turned by the window's start rises from there on.
 fn from_delay(s: SensedQuestion, start: Instant) -> Moment
     requires { ⌜ Sizes s ⌝ }
     requires { ⌜ Opened s × StartTried Lower s ⌝ }
@@ -216,7 +201,16 @@ fn from_delay(s: SensedQuestion, start: Instant) -> Moment
     if in_conflict(Side::Lower, s, d, 1) {
         return Moment::At(Instant { n: d, m: 1 });
     }
-    from_turning(s, start)
+    let turning = turning_instant(s);
+    match turning {
+        Moment::Never => from_end(Side::Lower, s),
+        Moment::At(t) => {
+            if no_later(t, start) {
+                return Moment::Never;
+            }
+            from_lowest(s, t)
+        }
+    }
 }
 
 // The time shown on a side. A window that does not hold its start is empty.
