@@ -2,14 +2,14 @@
 ghost use mathlib.Core.Path.{_≡_};
 ghost use lib.ListN.{length};
 ghost use Rattle.instant.specs.Lowest.{noTime};
-ghost use Rattle.judge.specs.Answers.{answer, sidesNumber};
+ghost use Rattle.judge.specs.Answers.{answer};
 ghost use Rattle.sheet.specs.WholeSheet.{outcome, areaAfter};
 ghost use Rattle.binding.specs.Flat.{withTimes, flatVerdict, flatAnswer, flatOutcome, plainEncounter, plainSettings, plainQuestion};
 use instant::Time;
 use judge::Answer;
-use judge::ClearSides;
 use judge::Verdict;
 use judge::judge;
+use judge::sides_number;
 use question::Encounter;
 use question::Question;
 use question::Settings;
@@ -64,21 +64,11 @@ fn no_time() -> Time
     }
 }
 
-fn sides_number(sides: ClearSides) -> u64
-    ensures { λ r. ⌜ r ≡ sidesNumber sides ⌝ }
-{
-    match sides {
-        ClearSides::Lower => 1,
-        ClearSides::Upper => 2,
-        ClearSides::Both => 3,
-    }
-}
-
 fn flat_verdict(verdict: Verdict) -> JudgeResult
     ensures { λ r. ⌜ r ≡ flatVerdict verdict ⌝ }
 {
     match verdict {
-        Verdict::Clear(sides) => with_times(65, sides_number(sides), no_time(), no_time()),
+        Verdict::Clear(sides) => with_times(65, sides_number(sides) as u64, no_time(), no_time()),
         Verdict::Conflict(t) => with_times(66, 0, t, no_time()),
         Verdict::Conflicts(t, u) => with_times(67, 0, t, u),
     }

@@ -7,7 +7,7 @@ ghost use Rattle.question.specs.declared.Checked.the-variants.{Accepted};
 ghost use Rattle.question.specs.Refusals.{refusal};
 ghost use Rattle.judge.specs.Sensed.{limitOf, sensedMotion, sensedQuestion};
 ghost use Rattle.judge.specs.Verdicts.{oneSidedVerdict, twoSidedVerdict, verdict};
-ghost use Rattle.judge.specs.Answers.{answer, answerRecord};
+ghost use Rattle.judge.specs.Answers.{answer, sidesNumber, answerRecord};
 use advisory::Sense;
 use conflict::positive_part;
 use instant::Moment;
@@ -160,5 +160,16 @@ pub fn judge(encounter: Encounter, settings: Settings, question: Question) -> An
     match check_question(encounter, settings, question) {
         Checked::Accepted => Answer::Judged(verdict_on(encounter, settings, question)),
         Checked::Refused(number) => Answer::Refused(number),
+    }
+}
+
+// "1 lower side clear, 2 upper, 3 both"
+pub fn sides_number(sides: ClearSides) -> u8
+    ensures { λ r. ⌜ r ≡ sidesNumber sides ⌝ }
+{
+    match sides {
+        ClearSides::Lower => 1,
+        ClearSides::Upper => 2,
+        ClearSides::Both => 3,
     }
 }

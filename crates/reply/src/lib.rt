@@ -4,13 +4,13 @@ ghost use Prim.Native.Nat.{_+_, _≤_};
 ghost use lib.ListN.{length};
 ghost use lib.Seq.{sets};
 ghost use Rattle.judge.specs.declared.Answer.the-variants.{Judged};
-ghost use Rattle.judge.specs.Answers.{sidesNumber, timeNumbers};
+ghost use Rattle.judge.specs.Answers.{timeNumbers};
 ghost use Rattle.reply.specs.declared.Reply.the-variants.{Answered};
 ghost use Rattle.reply.specs.AnswerBytes.{bigEndian, bodyBytes, replyBytes};
 use instant::Time;
 use judge::Answer;
-use judge::ClearSides;
 use judge::Verdict;
+use judge::sides_number;
 
 // What a record is answered: nothing, or an answer record.
 pub enum Reply {
@@ -43,16 +43,6 @@ pub fn reply_length(reply: Reply) -> usize
     match reply {
         Reply::Silent => 0,
         Reply::Answered(answer) => answer_length(answer),
-    }
-}
-
-fn sides_number(sides: ClearSides) -> u8
-    ensures { λ r. ⌜ r ≡ sidesNumber sides ⌝ }
-{
-    match sides {
-        ClearSides::Lower => 1,
-        ClearSides::Upper => 2,
-        ClearSides::Both => 3,
     }
 }
 

@@ -2,12 +2,11 @@
 // then its values. The lines that `stdout` expects were computed apart from the judge, in exact fractions.
 ghost use mathlib.Core.Path.{_≡_};
 ghost use Prim.Native.Nat.{_<_};
-ghost use Rattle.judge.specs.Answers.{sidesNumber};
 use instant::Time;
 use judge::Answer;
-use judge::ClearSides;
 use judge::Verdict;
 use judge::judge;
+use judge::sides_number;
 use question::CodedQuestion;
 use question::Encounter;
 use question::Question;
@@ -314,21 +313,11 @@ fn write_time(t: Time) {
     write_number(t.divisor);
 }
 
-fn sides_number(sides: ClearSides) -> u64
-    ensures { λ r. ⌜ r ≡ sidesNumber sides ⌝ }
-{
-    match sides {
-        ClearSides::Lower => 1,
-        ClearSides::Upper => 2,
-        ClearSides::Both => 3,
-    }
-}
-
 fn write_verdict(verdict: Verdict) {
     match verdict {
         Verdict::Clear(sides) => {
             write(b"65");
-            write_number(sides_number(sides));
+            write_number(sides_number(sides) as u64);
         }
         Verdict::Conflict(t) => {
             write(b"66");

@@ -15,6 +15,9 @@ enum-known-verdict c = search needs
 sides-number-requires : tie.Need-sides-number-requires
 sides-number-requires c κs = search needs
 
+cast-with-times : tie.Need-cast-with-times
+cast-with-times c = search needs
+
 no-time-requires : tie.Need-no-time-requires
 no-time-requires c κs = search needs
 
@@ -65,6 +68,7 @@ flat-verdict-spec =
     (tie.spec
     enum-known-verdict
     sides-number-requires
+    cast-with-times
     no-time-requires
     no-time-requires-2
     with-times-requires
