@@ -1,0 +1,2 @@
+pub mod SameNumbers
+pub mod Counting
