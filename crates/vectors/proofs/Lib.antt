@@ -1,2 +1,3 @@
 pub mod SameNumbers
 pub mod Counting
+pub mod Agreement

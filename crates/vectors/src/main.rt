@@ -1,4 +1,4 @@
-// Judges the cases of each file that an argument names, and writes a line on each: how many cases, how many whose answer is not the expected one, and how many of each kind the judge gave.
+// Judges the cases in each file that an argument names. Of each it writes the number of cases, of answers that differ from those in the file, and of answers of each kind.
 // `cargo run --profile checked --bin vectors ../crates/vectors`, run in `compare/`, writes the files, `args` and `stdout`: the answers are the independent implementation's.
 ghost use mathlib.Core.Path.{_≡_};
 ghost use Prim.Native.Nat.{_+_, _≤_, _<_};
@@ -222,15 +222,16 @@ fn counted(report: Report, tried: Tried) -> Report
     requires { ⌜ AtMost 9223372036854775807 report ⌝ }
     ensures { λ r. ⌜ r ≡ counted report tried ⌝ }
 {
+    let kind = tried.kind;
     let differences = report.differences + one_if(tried.differs);
     Report {
         cases: report.cases + 1,
         differences: differences,
         agreeing: report.agreeing + one_if(differences == 0),
-        clear: report.clear + one_if(tried.kind == 65),
-        conflict: report.conflict + one_if(tried.kind == 66),
-        conflicts: report.conflicts + one_if(tried.kind == 67),
-        refused: report.refused + one_if(tried.kind == 68),
+        clear: report.clear + one_if(kind == 65),
+        conflict: report.conflict + one_if(kind == 66),
+        conflicts: report.conflicts + one_if(kind == 67),
+        refused: report.refused + one_if(kind == 68),
     }
 }
 

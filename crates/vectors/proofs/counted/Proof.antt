@@ -1,7 +1,6 @@
 -- `vectors::counted` meets its contract: count by count.
 use mathlib.Core.Path.{_≡_, ap, _∙_}
 use Prim.Native.Nat.{ℕ, _+_}
-use native.Mathlib.Omega.{arith}
 use lib.Dec.{eqb}
 use borrow.Author.Needs.{needs}
 use Rattle.vectors.specs.declared.Report.{Report}
@@ -31,48 +30,46 @@ one-if-requires c κs = search needs
 add-differences : tie.Need-add-differences
 add-differences c = search needs
 
-add-t4 : tie.Need-add-t4
-add-t4 c = search needs
+add-t5 : tie.Need-add-t5
+add-t5 c = search needs
 
 one-if-requires-2 : tie.Need-one-if-requires-2
 one-if-requires-2 c κs = search needs
 
-add-t7 : tie.Need-add-t7
-add-t7 c = search needs
+add-t8 : tie.Need-add-t8
+add-t8 c = search needs
 
 one-if-requires-3 : tie.Need-one-if-requires-3
 one-if-requires-3 c κs = search needs
 
-add-t10 : tie.Need-add-t10
-add-t10 c = search needs
+add-t11 : tie.Need-add-t11
+add-t11 c = search needs
 
 one-if-requires-4 : tie.Need-one-if-requires-4
 one-if-requires-4 c κs = search needs
 
-add-t13 : tie.Need-add-t13
-add-t13 c = search needs
+add-t14 : tie.Need-add-t14
+add-t14 c = search needs
 
 one-if-requires-5 : tie.Need-one-if-requires-5
 one-if-requires-5 c κs = search needs
 
-add-t16 : tie.Need-add-t16
-add-t16 c = search needs
+add-t17 : tie.Need-add-t17
+add-t17 c = search needs
 
 one-if-requires-6 : tie.Need-one-if-requires-6
 one-if-requires-6 c κs = search needs
 
-add-t19 : tie.Need-add-t19
-add-t19 c =
-    let z = c .before .before .before .before .before .before .before .before .before .before .before .before .before .before .before .before .before in
-    record { fits = omega (arith, z .pre .refused, c .before .one-if6 .ensures .1) }
+add-t20 : tie.Need-add-t20
+add-t20 c = search needs
 
 returns : tie.Need-returns
 returns c =
     let c₆ = c .before in
-    let c₅ = c₆ .before .before .before in
-    let c₄ = c₅ .before .before .before in
-    let c₃ = c₄ .before .before .before in
-    let c₂ = c₃ .before .before .before in
+    let c₅ = c₆ .before .before in
+    let c₄ = c₅ .before .before in
+    let c₃ = c₄ .before .before in
+    let c₂ = c₃ .before .before in
     let c₁ = c₂ .before .before .before in
     let z = c₁ .before in
     let d = c₁ .one-if .ensures .0 in
@@ -90,15 +87,15 @@ counted-spec =
     (tie.spec
     one-if-requires
     add-differences
-    add-t4
+    add-t5
     one-if-requires-2
-    add-t7
+    add-t8
     one-if-requires-3
-    add-t10
+    add-t11
     one-if-requires-4
-    add-t13
+    add-t14
     one-if-requires-5
-    add-t16
+    add-t17
     one-if-requires-6
-    add-t19
+    add-t20
     returns)

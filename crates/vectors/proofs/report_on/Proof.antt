@@ -1,6 +1,6 @@
 -- `vectors::report_on` meets its contract. The loop's invariant: the report is that on the cases before.
 use mathlib.Core.Path.{_≡_, sym, ap, ap₂, _∙_}
-use Prim.Native.Nat.{ℕ, _+_, _*_, _-_, _/_, _≤_}
+use Prim.Native.Nat.{ℕ, _*_, _-_, _/_, _≤_}
 use native.Mathlib.Numerals.{add-one}
 use native.Mathlib.Omega.{arith}
 use lib.ListN.{length, drop, length-take, length-drop}
