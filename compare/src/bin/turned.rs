@@ -30,7 +30,7 @@ const EQUIVALENT: &[Equivalent] = &[
     Equivalent {
         function: "no_later",
         turned: "a.n * b.m < b.n * a.m",
-        reason: "only `earlier` asks, and of two instants that are the same time either is shown alike, in lowest terms",
+        reason: "of two instants that are the same time either is shown alike, in lowest terms; a path that turns at the window's start is tried there once more",
     },
     Equivalent {
         function: "same_instant",
@@ -71,6 +71,16 @@ const EQUIVALENT: &[Equivalent] = &[
         function: "lower_not_beyond",
         turned: "if n < end {",
         reason: "at d the rule begins at the height where the delay ends",
+    },
+    Equivalent {
+        function: "approaching",
+        turned: "Side::Lower => s.target <= 0,",
+        reason: "in a window without an end a path to target 0 is settled at its turning instant, and not searched",
+    },
+    Equivalent {
+        function: "answer_fits",
+        turned: "if LONGEST_ANSWER < room {",
+        reason: "an area of just that length has room for every answer, as the length pass finds too",
     },
     Equivalent {
         function: "signed",

@@ -1,17 +1,23 @@
-//! vectors SEED COUNT [FILE]: writes COUNT generated questions with their answers to FILE or to
-//! standard output, 153 bytes a case: the sixteen plain numbers, 8 bytes each, big-endian two's
-//! complement; 1 byte, the kind of the answer; its six numbers, 4 bytes each, big-endian, those that
-//! the kind does not use 0 (kind 65: the sides first; kind 68: the refusal first).
+//! vectors FOLDER: writes the cases of the program crate `vectors`, 512 to a file in FOLDER/data, the files' names to FOLDER/args and, a line each, what the
+//! program must say of them to FOLDER/stdout. A file is named by its first case; case i is the generator's question i of seed 2026.
 //!
-//! vectors --text SEED COUNT: the same cases as lines, in the form of `worked`.
+//! A case is 153 bytes: the sixteen plain numbers, 8 bytes each, big-endian two's complement; 1 byte, the kind of the answer; its six numbers, 4 bytes each,
+//! big-endian, those that the kind does not use 0 (kind 65: the sides first; kind 68: the refusal first).
+//!
+//! vectors SEED COUNT: the generator's first COUNT questions with their answers as lines, in the form of `worked`.
 
+use compare::edges::{self, Edge};
 use compare::generate;
-use compare::independent::{Answer, Question, judge};
-use std::fs::File;
-use std::io::{self, BufWriter, Write};
+use compare::independent::{Accepted, Answer, Moment, Question, judge};
+use std::fs;
+use std::io::{self, Write};
+use std::path::Path;
 use std::process::ExitCode;
 
 const CASE: usize = 153;
+const SEED: u64 = 2026;
+const FILES: u64 = 8;
+const CASES_IN_FILE: u64 = 512;
 
 fn case(q: &Question, answer: &Answer) -> [u8; CASE] {
     let mut bytes = Vec::with_capacity(CASE);
@@ -25,58 +31,111 @@ fn case(q: &Question, answer: &Answer) -> [u8; CASE] {
     bytes.try_into().unwrap()
 }
 
-fn write_all(arguments: &[String], text: bool) -> Option<io::Result<[u64; 10]>> {
-    let seed: u64 = arguments.first()?.parse().ok()?;
-    let count: u64 = arguments.get(1)?.parse().ok()?;
-    let mut counts = [0; 10];
-    let run = || -> io::Result<[u64; 10]> {
-        let mut out: Box<dyn Write> = match arguments.get(2) {
-            Some(path) => Box::new(BufWriter::new(File::create(path)?)),
-            None => Box::new(BufWriter::new(io::stdout().lock())),
-        };
-        for i in 0..count {
-            let q = generate::question(seed, i);
+/// What the cases must hold, each at least once.
+const CLASSES: [&str; 14] = [
+    "refusal 1",
+    "refusal 2",
+    "refusal 3",
+    "refusal 4",
+    "refusal 5",
+    "refusal 6",
+    "kind 65",
+    "kind 66",
+    "kind 67",
+    "kind 68",
+    "lower whole second, window without an end",
+    "upper whole second, window without an end",
+    "a number -2^63",
+    "a number 2^63 - 1",
+];
+
+fn classes(q: &Question, answer: &Answer) -> [bool; CLASSES.len()] {
+    let mut found = [false; CLASSES.len()];
+    if let Answer::Refused(number) = *answer {
+        found[usize::from(number) - 1] = true;
+    }
+    found[usize::from(answer.kind()) - 59] = true;
+    if let Ok(accepted) = Accepted::of(q) {
+        let searched = |shown| matches!(shown, Some((_, Moment::WholeSecond)));
+        found[10] = searched(accepted.lower_shown());
+        found[11] = accepted
+            .upper
+            .is_some_and(|upper| searched(accepted.upper_shown(upper)));
+    }
+    let edges = edges::of(q);
+    found[12] = edges.has(Edge::Smallest64);
+    found[13] = edges.has(Edge::Largest64);
+    found
+}
+
+/// How often each class occurs.
+fn write_crate(folder: &Path) -> io::Result<[u64; CLASSES.len()]> {
+    let (mut names, mut lines) = (String::new(), String::new());
+    let mut counts = [0; CLASSES.len()];
+    for file in 0..FILES {
+        let first = file * CASES_IN_FILE;
+        let name = format!("cases_{first:04}");
+        let mut bytes = Vec::new();
+        let mut kinds = [0; 4];
+        for i in first..first + CASES_IN_FILE {
+            let q = generate::question(SEED, i);
             let answer = judge(&q);
-            let class = match answer {
-                Answer::Refused(number) => usize::from(number),
-                _ => usize::from(answer.kind() - 65) + 7,
-            };
-            counts[class] += 1;
-            if text {
-                writeln!(out, "{seed}-{i} {q} -> {answer}")?;
-            } else {
-                out.write_all(&case(&q, &answer))?;
+            bytes.extend_from_slice(&case(&q, &answer));
+            kinds[usize::from(answer.kind()) - 65] += 1;
+            for (count, found) in counts.iter_mut().zip(classes(&q, &answer)) {
+                *count += u64::from(found);
             }
         }
-        out.flush()?;
-        Ok(counts)
-    };
-    Some({ run }())
+        fs::write(folder.join("data").join(&name), &bytes)?;
+        names += &format!("{name}\n");
+        lines += &format!(
+            "{name}: cases {CASES_IN_FILE}, differences 0; kind 65 {}, 66 {}, 67 {}, 68 {}\n",
+            kinds[0], kinds[1], kinds[2], kinds[3]
+        );
+    }
+    fs::write(folder.join("args"), names)?;
+    fs::write(folder.join("stdout"), lines)?;
+    Ok(counts)
+}
+
+fn write_lines(seed: u64, count: u64) -> io::Result<()> {
+    let mut out = io::BufWriter::new(io::stdout().lock());
+    for i in 0..count {
+        let q = generate::question(seed, i);
+        writeln!(out, "{seed}-{i} {q} -> {}", judge(&q))?;
+    }
+    out.flush()
+}
+
+fn print_counts(counts: [u64; CLASSES.len()]) -> Result<(), String> {
+    for (class, count) in CLASSES.iter().zip(counts) {
+        eprintln!("{class}: {count}");
+    }
+    if counts.contains(&0) {
+        return Err("a class does not occur".into());
+    }
+    Ok(())
+}
+
+fn run(arguments: &[String]) -> Result<(), String> {
+    match arguments {
+        [folder] => print_counts(write_crate(Path::new(folder)).map_err(|e| e.to_string())?),
+        [seed, count] => {
+            let seed = seed.parse().map_err(|_| "SEED is no number")?;
+            let count = count.parse().map_err(|_| "COUNT is no number")?;
+            write_lines(seed, count).map_err(|e| e.to_string())
+        }
+        _ => Err("vectors FOLDER, or vectors SEED COUNT".into()),
+    }
 }
 
 fn main() -> ExitCode {
-    let mut arguments: Vec<String> = std::env::args().skip(1).collect();
-    let text = arguments.first().is_some_and(|word| word == "--text");
-    if text {
-        arguments.remove(0);
-    }
-    match write_all(&arguments, text) {
-        None => {
-            eprintln!("vectors [--text] SEED COUNT [FILE]");
-            ExitCode::from(2)
-        }
-        Some(Err(error)) => {
+    let arguments: Vec<String> = std::env::args().skip(1).collect();
+    match run(&arguments) {
+        Ok(()) => ExitCode::SUCCESS,
+        Err(error) => {
             eprintln!("vectors: {error}");
             ExitCode::FAILURE
-        }
-        Some(Ok(counts)) => {
-            for (number, n) in counts[1..7].iter().enumerate() {
-                eprintln!("refusal {}: {n}", number + 1);
-            }
-            for (kind, n) in counts[7..].iter().enumerate() {
-                eprintln!("kind {}: {n}", kind + 65);
-            }
-            ExitCode::SUCCESS
         }
     }
 }

@@ -32,14 +32,15 @@ pub enum Record {
 
 const MAX_SHEET: usize = 8192;
 
-fn wide(byte: u8) -> u64
+// A byte as a number of 64 bits.
+pub fn wide(byte: u8) -> u64
     ensures { λ r. ⌜ (r ≡ byte) × (r < 256) ⌝ }
 {
     byte as u64
 }
 
 // The four bytes at a position, unsigned.
-fn word_at(bytes: &[u8], at: usize) -> u64
+pub fn word_at(bytes: &[u8], at: usize) -> u64
     requires { ⌜ at + 4 ≤ length (now bytes) ⌝ }
     ensures { λ r. ⌜ (r ≡ wordAt (now (bytes .entry)) at) × (r < 4294967296) ⌝ }
 {

@@ -1,0 +1,3 @@
+pub mod SameNumbers
+pub mod Counting
+pub mod Agreement
