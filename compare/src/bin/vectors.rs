@@ -6,7 +6,7 @@
 //!
 //! vectors SEED COUNT: the generator's first COUNT questions with their answers as lines, in the form of `worked`.
 
-use compare::edges::{self, Edge};
+use compare::exact::Ratio;
 use compare::generate;
 use compare::independent::{Accepted, Answer, Moment, Question, judge};
 use std::fs;
@@ -31,44 +31,44 @@ fn case(q: &Question, answer: &Answer) -> [u8; CASE] {
     bytes.try_into().unwrap()
 }
 
-/// What the cases must hold, each at least once.
-const CLASSES: [&str; 14] = [
-    "refusal 1",
-    "refusal 2",
-    "refusal 3",
-    "refusal 4",
-    "refusal 5",
-    "refusal 6",
-    "kind 65",
-    "kind 66",
-    "kind 67",
-    "kind 68",
-    "lower whole second, window without an end",
-    "upper whole second, window without an end",
-    "a number -2^63",
-    "a number 2^63 - 1",
-];
-
-fn classes(q: &Question, answer: &Answer) -> [bool; CLASSES.len()] {
-    let mut found = [false; CLASSES.len()];
-    if let Answer::Refused(number) = *answer {
-        found[usize::from(number) - 1] = true;
-    }
-    found[usize::from(answer.kind()) - 59] = true;
-    if let Ok(accepted) = Accepted::of(q) {
-        let searched = |shown| matches!(shown, Some((_, Moment::WholeSecond)));
-        found[10] = searched(accepted.lower_shown());
-        found[11] = accepted
-            .upper
-            .is_some_and(|upper| searched(accepted.upper_shown(upper)));
-    }
-    let edges = edges::of(q);
-    found[12] = edges.has(Edge::Smallest64);
-    found[13] = edges.has(Edge::Largest64);
-    found
+fn searched(shown: Option<(Ratio, Moment)>) -> bool {
+    matches!(shown, Some((_, Moment::WholeSecond)))
 }
 
-/// How often each class occurs.
+fn lower_searched(q: &Question) -> bool {
+    Accepted::of(q).is_ok_and(|accepted| searched(accepted.lower_shown()))
+}
+
+fn upper_searched(q: &Question) -> bool {
+    Accepted::of(q).is_ok_and(|accepted| {
+        accepted
+            .upper
+            .is_some_and(|upper| searched(accepted.upper_shown(upper)))
+    })
+}
+
+type Class = (&'static str, fn(&Question, &Answer) -> bool);
+
+/// What must be among the cases.
+const CLASSES: [Class; 15] = [
+    ("refusal 1", |_, a| *a == Answer::Refused(1)),
+    ("refusal 2", |_, a| *a == Answer::Refused(2)),
+    ("refusal 3", |_, a| *a == Answer::Refused(3)),
+    ("refusal 4", |_, a| *a == Answer::Refused(4)),
+    ("refusal 5", |_, a| *a == Answer::Refused(5)),
+    ("refusal 6", |_, a| *a == Answer::Refused(6)),
+    ("clear, lower side", |_, a| *a == Answer::Clear(1)),
+    ("clear, upper side", |_, a| *a == Answer::Clear(2)),
+    ("clear, both sides", |_, a| *a == Answer::Clear(3)),
+    ("one-sided conflict", |_, a| a.kind() == 66),
+    ("two-sided conflict", |_, a| a.kind() == 67),
+    ("no end, lower whole second", |q, _| lower_searched(q)),
+    ("no end, upper whole second", |q, _| upper_searched(q)),
+    ("a number -2^63", |q, _| q.numbers().contains(&i64::MIN)),
+    ("a number 2^63 - 1", |q, _| q.numbers().contains(&i64::MAX)),
+];
+
+/// Writes the crate's files and gives how often each class occurs.
 fn write_crate(folder: &Path) -> io::Result<[u64; CLASSES.len()]> {
     let (mut names, mut lines) = (String::new(), String::new());
     let mut counts = [0; CLASSES.len()];
@@ -82,8 +82,8 @@ fn write_crate(folder: &Path) -> io::Result<[u64; CLASSES.len()]> {
             let answer = judge(&q);
             bytes.extend_from_slice(&case(&q, &answer));
             kinds[usize::from(answer.kind()) - 65] += 1;
-            for (count, found) in counts.iter_mut().zip(classes(&q, &answer)) {
-                *count += u64::from(found);
+            for (count, (_, holds)) in counts.iter_mut().zip(CLASSES) {
+                *count += u64::from(holds(&q, &answer));
             }
         }
         fs::write(folder.join("data").join(&name), &bytes)?;
@@ -108,7 +108,7 @@ fn write_lines(seed: u64, count: u64) -> io::Result<()> {
 }
 
 fn print_counts(counts: [u64; CLASSES.len()]) -> Result<(), String> {
-    for (class, count) in CLASSES.iter().zip(counts) {
+    for ((class, _), count) in CLASSES.iter().zip(counts) {
         eprintln!("{class}: {count}");
     }
     if counts.contains(&0) {

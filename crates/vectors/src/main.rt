@@ -1,5 +1,6 @@
 // Judges the cases in each file that an argument names. Of each it writes the number of cases, of answers that differ from those in the file, and of answers of each kind.
 // `cargo run --profile checked --bin vectors ../crates/vectors`, run in `compare/`, writes the files, `args` and `stdout`: the answers are the independent implementation's.
+// A file's name has the number of its first case.
 ghost use mathlib.Core.Path.{_≡_};
 ghost use Prim.Native.Nat.{_+_, _≤_, _<_};
 ghost use lib.ListN.{length};
@@ -31,7 +32,7 @@ struct Tried {
 struct Report {
     cases: u64,
     differences: u64,
-    // The cases before the first difference, which is its number.
+    // How many cases come before the first difference: its number, from 0.
     agreeing: u64,
     // Answers of kinds 65, 66, 67 and 68.
     clear: u64,
@@ -147,6 +148,7 @@ fn answer_numbers(answer: Answer) -> [u64; 7]
     }
 }
 
+// The proof does not get an array's length from a reference to it, so the contract asks for it.
 fn same_numbers(a: &[u64; 7], b: &[u64; 7]) -> bool
     requires { ⌜ (length (now a) ≡ 7) × (length (now b) ≡ 7) ⌝ }
     ensures { λ r. ⌜ r ≡ sameNumbers (now (a .entry)) (now (b .entry)) ⌝ }

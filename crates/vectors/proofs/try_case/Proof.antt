@@ -3,6 +3,7 @@ use mathlib.Core.Path.{_≡_, ap, ap₂, _∙_}
 use mathlib.Core.Bool.{Bool, not}
 use mathlib.Core.List.{List}
 use Prim.Native.Nat.{ℕ}
+use native.Mathlib.Omega.{arith}
 use lib.ListN.{length, getD}
 use borrow.Author.Needs.{needs}
 use Rattle.question.specs.declared.Encounter.{Encounter}
@@ -39,7 +40,11 @@ array-read-t11 c = search needs
 
 same-numbers-requires : tie.Need-same-numbers-requires
 unfolding expectedNumbers
-same-numbers-requires c κs = let e = c .before .before in (ap length (e .before .answer-numbers .ensures), ap length (e .expected-numbers .ensures))
+same-numbers-requires c κs =
+    let e = c .before .before in
+    let found = ap length (e .before .answer-numbers .ensures) in
+    let expected = ap length (e .expected-numbers .ensures) in
+    (omega arith, omega arith)
 
 returns : tie.Need-returns
 unfolding tried
