@@ -27,7 +27,7 @@ use Rattle.judge.specs.declared.Verdict.{Verdict}
 use Rattle.question.specs.Limits.{distanceWithin, heightWithin, closingSpeedWithin, speedWithin, strengthWithin, delayWithin}
 use Rattle.question.specs.Refusals.{isNumber, encounterWithin, puckWithin, delayAccelerationWithin, sidesKnown, adviceWithin, timesWithin, limitAllowed, Check, check, firstRefusal, refusal}
 use Rattle.judge.specs.Sensed.{sensedQuestion}
-use Rattle.question.specs.Coded.{senseNumber, instructed, asked, codedQuestion}
+use Rattle.coded.specs.Coded.{senseNumber, instructed, asked, codedQuestion}
 use Rattle.judge.specs.Verdicts.{verdict}
 use Rattle.judge.specs.Answers.{checkedAnswer, answer}
 use Rattle.integers.proofs.Branches.{picks-yes, picks-no}

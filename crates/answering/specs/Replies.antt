@@ -8,12 +8,12 @@ use Rattle.question.specs.declared.Encounter.{Encounter}
 use Rattle.question.specs.declared.Settings.{Settings}
 use Rattle.question.specs.declared.Question.{Question}
 use Rattle.question.specs.declared.Checked.{Checked}
-use Rattle.question.specs.declared.CodedQuestion.{CodedQuestion}
+use Rattle.coded.specs.declared.CodedQuestion.{CodedQuestion}
 use Rattle.judge.specs.declared.Answer.{Answer}
 use Rattle.judge.specs.declared.Answer.the-variants.{Refused}
 use Rattle.question.specs.Limits.{limitWithin}
 use Rattle.question.specs.Refusals.{isNumber, noLimit, encounterWithin, puckWithin, delayAccelerationWithin, sidesKnown, adviceWithin, timesWithin, Check, check}
-use Rattle.question.specs.Coded.{codedQuestion}
+use Rattle.coded.specs.Coded.{codedQuestion}
 use Rattle.judge.specs.Answers.{answer}
 use Rattle.record.specs.declared.Record.{Record}
 use Rattle.reply.specs.declared.Reply.{Reply}

@@ -5,11 +5,11 @@ use Prim.Native.String.{String}
 use lib.IntN.{ℤ, pos, negℤ}
 use Rattle.question.specs.declared.Encounter.{Encounter}
 use Rattle.question.specs.declared.Settings.{Settings}
-use Rattle.question.specs.declared.CodedQuestion.{CodedQuestion}
+use Rattle.coded.specs.declared.CodedQuestion.{CodedQuestion}
 use Rattle.judge.specs.declared.Answer.{Answer}
 use Rattle.question.specs.Refusals.{noLimit}
 use Rattle.question.specs.StartingSettings.{startingSettings}
-use Rattle.question.specs.Coded.{codedQuestion}
+use Rattle.coded.specs.Coded.{codedQuestion}
 use Rattle.judge.specs.Answers.{answer, AnswerRecord, answers, answerRecord}
 
 -- an example: its name, its encounter, what is asked there, and the answer

@@ -21,9 +21,9 @@ use question::Encounter;
 use question::NO_LIMIT;
 use question::Question;
 use question::Settings;
-use question::check_question;
 use question::sense_of;
 use question::two_sided;
+use refusals::check_question;
 use shown::time_shown;
 
 // The intruder's sensed height w × h, and the sensed speeds u, q and that of the upper target.

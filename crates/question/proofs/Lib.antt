@@ -1,2 +1,1 @@
-pub mod SensedOrder
 pub mod WithinLimits

@@ -1,4 +1,3 @@
 pub mod StartingSettings
 pub mod Limits
 pub mod Refusals
-pub mod Coded

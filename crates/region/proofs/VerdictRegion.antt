@@ -40,7 +40,7 @@ use Rattle.judge.specs.declared.Answer.{Answer}
 use Rattle.question.specs.Limits.{distanceWithin, heightWithin, closingSpeedWithin, speedWithin, strengthWithin, delayWithin}
 use Rattle.question.specs.Refusals.{isNumber, twoSided, noLimit, encounterWithin, puckWithin, delayAccelerationWithin, sidesKnown, lowerWithin, adviceWithin, timesWithin, refusal}
 use Rattle.judge.specs.Sensed.{limitOf, sensedQuestion}
-use Rattle.question.specs.Coded.{senseNumber, instructed, asked, codedQuestion}
+use Rattle.coded.specs.Coded.{senseNumber, instructed, asked, codedQuestion}
 use Rattle.judge.specs.Verdicts.{verdict}
 use Rattle.judge.specs.Answers.{answer, AnswerRecord, answerRecord}
 use Rattle.judge.specs.Demand3.{RightOneSided}

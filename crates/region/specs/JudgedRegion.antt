@@ -12,14 +12,14 @@ use Rattle.advisory.specs.Table1.{printedAt}
 use Rattle.question.specs.declared.Encounter.{Encounter}
 use Rattle.question.specs.declared.Settings.{Settings}
 use Rattle.question.specs.declared.Question.{Question}
-use Rattle.question.specs.declared.CodedQuestion.{CodedQuestion}
+use Rattle.coded.specs.declared.CodedQuestion.{CodedQuestion}
 use Rattle.question.specs.declared.Checked.{Checked}
 use Rattle.judge.specs.declared.ClearSides.{ClearSides}
 use Rattle.judge.specs.declared.Verdict.{Verdict}
 use Rattle.judge.specs.declared.Answer.{Answer}
 use Rattle.question.specs.Refusals.{noLimit, refusal}
 use Rattle.judge.specs.Sensed.{sensedQuestion}
-use Rattle.question.specs.Coded.{codedQuestion}
+use Rattle.coded.specs.Coded.{codedQuestion}
 use Rattle.judge.specs.Verdicts.{verdict}
 use Rattle.judge.specs.Answers.{answer, answerRecord, AnswerRecord, answers}
 use Rattle.region.specs.Formula.{Formula, Says}

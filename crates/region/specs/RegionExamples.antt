@@ -5,7 +5,7 @@ use mathlib.Core.List.{List, filter}
 use lib.Dec.{eqb}
 use Rattle.path.specs.declared.SensedQuestion.{SensedQuestion}
 use Rattle.question.specs.declared.Question.{Question}
-use Rattle.question.specs.declared.CodedQuestion.{CodedQuestion}
+use Rattle.coded.specs.declared.CodedQuestion.{CodedQuestion}
 use Rattle.question.specs.StartingSettings.{startingSettings}
 use Rattle.question.specs.Refusals.{isNumber, twoSided, noLimit, noDelay}
 use Rattle.judge.specs.Sensed.{sensedQuestion}

@@ -18,7 +18,7 @@ use Rattle.judge.specs.declared.Verdict.the-variants.{Clear, Conflict, Conflict
 use Rattle.judge.specs.declared.Answer.{Answer}
 use Rattle.question.specs.Refusals.{encounterWithin, puckWithin, delayAccelerationWithin, refusal, twoSided}
 use Rattle.judge.specs.Sensed.{sensedQuestion}
-use Rattle.question.specs.Coded.{asked, instructed, codedQuestion}
+use Rattle.coded.specs.Coded.{asked, instructed, codedQuestion}
 use Rattle.judge.specs.Verdicts.{verdict}
 use Rattle.judge.specs.Answers.{checkedAnswer, answer}
 use Rattle.judge.specs.Demand3.{RightOneSided}

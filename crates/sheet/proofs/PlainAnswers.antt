@@ -5,8 +5,8 @@ use Prim.Native.Nat.{ℕ}
 use lib.IntN.{ℤ}
 use Rattle.question.specs.declared.Encounter.{Encounter}
 use Rattle.question.specs.declared.Question.{Question}
-use Rattle.question.specs.declared.CodedQuestion.{CodedQuestion}
-use Rattle.question.specs.Coded.{codedQuestion}
+use Rattle.coded.specs.declared.CodedQuestion.{CodedQuestion}
+use Rattle.coded.specs.Coded.{codedQuestion}
 use Rattle.judge.specs.Answers.{answer, answerRecord}
 use Rattle.record.specs.declared.Record.{Record}
 use Rattle.record.specs.Records.{records}

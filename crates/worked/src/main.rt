@@ -2,16 +2,16 @@
 // then its values. The lines that `stdout` expects were computed apart from the judge, in exact fractions.
 ghost use mathlib.Core.Path.{_≡_};
 ghost use Prim.Native.Nat.{_<_};
+use coded::CodedQuestion;
+use coded::coded_question;
 use instant::Time;
 use judge::Answer;
 use judge::Verdict;
 use judge::judge;
 use judge::sides_number;
-use question::CodedQuestion;
 use question::Encounter;
 use question::Question;
 use question::Settings;
-use question::coded_question;
 
 const DESCEND: i64 = 0;
 

@@ -7,8 +7,8 @@ use mir.Syntax.{w64}
 use mir.Val.{toZ, ofZ}
 use Rattle.question.specs.declared.Settings.{Settings}
 use Rattle.question.specs.declared.Encounter.{Encounter}
-use Rattle.question.specs.declared.CodedQuestion.{CodedQuestion}
-use Rattle.question.specs.Coded.{codedQuestion}
+use Rattle.coded.specs.declared.CodedQuestion.{CodedQuestion}
+use Rattle.coded.specs.Coded.{codedQuestion}
 use Rattle.judge.specs.Answers.{answerRecord}
 use Rattle.answering.specs.declared.LastEncounter.{LastEncounter}
 use Rattle.answering.specs.Replies.{askedAnswer, codedAnswer}

@@ -1,13 +1,13 @@
--- `question::instructed` meets its contract: every number is small and stored exactly.
+-- `coded::instructed` meets its contract: every number is small and stored exactly.
 use mathlib.Core.Path.{_≡_, ap, _∙_}
 use borrow.Author.Needs.{needs, sfits-of}
 use lib.IntN.{ℤ, pos}
 use mir.Facts.{toZ-ofZ}
 use Rattle.integers.proofs.Machine.{bounded-word, result}
 use Rattle.advisory.specs.Catalogue.{rateOf}
 use Rattle.question.specs.declared.Question.{Question}
-use Rattle.question.proofs.instructed.Statement.{statement}
-use Rattle.question.proofs.instructed.Tie as tie
+use Rattle.coded.proofs.instructed.Statement.{statement}
+use Rattle.coded.proofs.instructed.Tie as tie
 
 sense-number-requires : tie.Need-sense-number-requires
 sense-number-requires c κs = search needs

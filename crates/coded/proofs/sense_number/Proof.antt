@@ -1,9 +1,9 @@
--- `question::sense_number` meets its contract: by cases on the sense.
+-- `coded::sense_number` meets its contract: by cases on the sense.
 use mathlib.Core.Path.{sym, ap}
 use borrow.Author.Needs.{needs}
-use Rattle.question.specs.Coded.{senseNumber}
-use Rattle.question.proofs.sense_number.Statement.{statement}
-use Rattle.question.proofs.sense_number.Tie as tie
+use Rattle.coded.specs.Coded.{senseNumber}
+use Rattle.coded.proofs.sense_number.Statement.{statement}
+use Rattle.coded.proofs.sense_number.Tie as tie
 
 enum-told : tie.Need-enum-told
 enum-told c = search needs

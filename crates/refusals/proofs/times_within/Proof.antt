@@ -1,12 +1,12 @@
 use borrow.Author.Needs.{needs}
-use Rattle.question.proofs.times_within.Statement.{statement}
-use Rattle.question.proofs.times_within.Tie as tie
-use Rattle.question.proofs.times_within.Reads as reads
-use Rattle.question.proofs.times_within.Lts as lts
-use Rattle.question.proofs.delay_within.Reads as delay-within-reads
-use Rattle.question.proofs.limit_allowed.Reads as limit-allowed-reads
-use Rattle.question.proofs.no_delay.Reads as no-delay-reads
+use Rattle.refusals.proofs.times_within.Statement.{statement}
+use Rattle.refusals.proofs.times_within.Tie as tie
+use Rattle.refusals.proofs.times_within.Reads as reads
+use Rattle.refusals.proofs.times_within.Lts as lts
+use Rattle.refusals.proofs.delay_within.Reads as delay-within-reads
+use Rattle.refusals.proofs.limit_allowed.Reads as limit-allowed-reads
+use Rattle.refusals.proofs.no_delay.Reads as no-delay-reads
 use Rattle.question.proofs.two_sided.Reads as two-sided-reads
 
 -- src/lib.rt:202:6
 delay-within-requires : tie.Need-delay-within-requires

@@ -1,14 +1,14 @@
--- `question::coded_question` meets its contract: by cases on what the code advises; a table's values are within limits.
+-- `coded::coded_question` meets its contract: by cases on what the code advises; a table's values are within limits.
 use mathlib.Core.Path.{sym, ap, ap₂, _∙_}
 use lib.IntN.{ℤ}
 use borrow.Author.Needs.{needs}
 use mir.Facts.{toZ-ofZ}
 use Rattle.advisory.specs.declared.Advised.{Advised}
 use Rattle.advisory.proofs.Limits.{in-limits}
-use Rattle.question.specs.declared.CodedQuestion.{CodedQuestion}
-use Rattle.question.specs.Coded.{instructed, asked, codedQuestion}
-use Rattle.question.proofs.coded_question.Statement.{statement}
-use Rattle.question.proofs.coded_question.Tie as tie
+use Rattle.coded.specs.declared.CodedQuestion.{CodedQuestion}
+use Rattle.coded.specs.Coded.{instructed, asked, codedQuestion}
+use Rattle.coded.proofs.coded_question.Statement.{statement}
+use Rattle.coded.proofs.coded_question.Tie as tie
 
 advise-requires : tie.Need-advise-requires
 advise-requires c κs = search needs

@@ -1,4 +1,4 @@
--- `question::target_rate` meets its contract: by cases on the target.
+-- `coded::target_rate` meets its contract: by cases on the target.
 use mathlib.Core.Path.{_≡_, sym, ap, _∙_}
 use borrow.Author.Needs.{needs}
 use mir.Syntax.{w64}
@@ -6,8 +6,8 @@ use mir.Val.{toZ, ofZ}
 use mir.Facts.{toZ-ofZ}
 use Rattle.advisory.specs.declared.Target.{Target}
 use Rattle.advisory.specs.Catalogue.{rateOf}
-use Rattle.question.proofs.target_rate.Statement.{statement}
-use Rattle.question.proofs.target_rate.Tie as tie
+use Rattle.coded.proofs.target_rate.Statement.{statement}
+use Rattle.coded.proofs.target_rate.Tie as tie
 
 enum-known-target : tie.Need-enum-known-target
 enum-known-target c = search needs

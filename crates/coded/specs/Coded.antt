@@ -7,8 +7,8 @@ use Rattle.advisory.specs.declared.Instruction.{Instruction}
 use Rattle.advisory.specs.declared.Advised.{Advised}
 use Rattle.advisory.specs.Catalogue.{rateOf}
 use Rattle.advisory.specs.Advised.{advisedOf}
 use Rattle.question.specs.declared.Question.{Question}
-use Rattle.question.specs.declared.CodedQuestion.{CodedQuestion}
+use Rattle.coded.specs.declared.CodedQuestion.{CodedQuestion}
 
 -- "Sense 0 descend or 1 climb"
 abbrev pub senseNumber : Sense → ℤ

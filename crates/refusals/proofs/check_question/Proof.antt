@@ -1,14 +1,14 @@
--- `question::check_question` meets its contract: each test passed leaves the rest of the list of checks, and the first that fails gives its number.
+-- `refusals::check_question` meets its contract: each test passed leaves the rest of the list of checks, and the first that fails gives its number.
 use mathlib.Core.Path.{_≡_, sym, _∙_}
 use mathlib.Core.List.{List, [], _∷_}
 use Prim.Native.Nat.{ℕ, zero, suc}
 use borrow.Author.Needs.{needs}
 use borrow.Author.Tests.{not-true, not-false}
 use Rattle.question.specs.declared.Checked.{Checked}
 use Rattle.question.specs.Refusals.{encounterWithin, puckWithin, delayAccelerationWithin, sidesKnown, adviceWithin, timesWithin, Check, firstRefusal, plainChecks, refusal}
 use Rattle.integers.proofs.Branches.{picks-yes, picks-no}
-use Rattle.question.proofs.check_question.Statement.{statement}
-use Rattle.question.proofs.check_question.Tie as tie
+use Rattle.refusals.proofs.check_question.Statement.{statement}
+use Rattle.refusals.proofs.check_question.Tie as tie
 
 -- the refusal among the checks that are left after the first k
 abbrev left : ℕ → List Check → Checked

@@ -1,12 +1,12 @@
--- `question::targets_ordered` meets its contract: an order in the sense is the order itself or turned.
+-- `refusals::targets_ordered` meets its contract: an order in the sense is the order itself or turned.
 use mathlib.Core.Path.{sym, ap, _∙_}
 use borrow.Author.Needs.{needs}
 use lib.Signed.{leZ}
 use Rattle.advisory.specs.declared.Sense.{Sense}
 use Rattle.advisory.specs.Sign.{sensed}
-use Rattle.question.proofs.SensedOrder.{climb-order, descend-order}
-use Rattle.question.proofs.targets_ordered.Statement.{statement}
-use Rattle.question.proofs.targets_ordered.Tie as tie
+use Rattle.refusals.proofs.SensedOrder.{climb-order, descend-order}
+use Rattle.refusals.proofs.targets_ordered.Statement.{statement}
+use Rattle.refusals.proofs.targets_ordered.Tie as tie
 
 sense-of-requires : tie.Need-sense-of-requires
 sense-of-requires c κs = search needs
