@@ -1,17 +1,17 @@
--- The bounds of a question's, a rule's and an instant's numbers, as rules for `search`. Assumes nothing.
-use mathlib.Core.Path.{_≡_, sym, _∙_, subst}
+-- The bounds of a question's and a rule's numbers, as rules for `search`. Assumes nothing.
+use mathlib.Core.Path.{_≡_, _∙_}
 use mathlib.Core.List.{[], _∷_}
-use Prim.Native.Nat.{ℕ, _+_, _*_, _<_, _≤_}
+use Prim.Native.Nat.{ℕ, _*_, _<_, _≤_}
 use native.Mathlib.Nat.{mul-le-mul}
 use native.Mathlib.Omega.{arith}
-use lib.Dec.{T, lit≤}
+use lib.Dec.{lit≤}
 use lib.IntN.{ℤ, pos, negsuc, _-ℤ_, natAbs}
 use lib.Signed.{_≤ℤ_, leZ}
 use mir.Syntax.{w64}
 use mir.Val.{SFits, toZ, ofZ}
 use mir.Facts.{toZ-ofZ}
 use Rattle.integers.specs.Extremes.{max0, maxℤ}
-use Rattle.integers.proofs.Difference.{negPart, cond-by}
+use Rattle.integers.proofs.Difference.{cond-by}
 use Rattle.integers.proofs.Quotation.{quote}
 use Rattle.integers.proofs.Certificates.{by≤, 0≤pos}
 use Rattle.integers.proofs.Laws.{max0-le, natAbs-in}
@@ -19,10 +19,10 @@ use Rattle.integers.proofs.Machine.{Reading, bounded, bounded-natural, bounded-
 use Rattle.path.specs.declared.SensedQuestion.{SensedQuestion}
 use Rattle.path.specs.declared.Side.{Side}
 use Rattle.path.specs.declared.Side.the-variants.{Lower, Upper}
-use Rattle.path.specs.Letters.{r, c, k, wh, u, q, d, e, upper-q}
+use Rattle.path.specs.Letters.{k, wh, u, q, d, e, upper-q}
 use Rattle.path.specs.Paths.{delayHeight, u-d, upperTarget}
-use Rattle.path.specs.Window.{distanceAt}
 use Rattle.path.specs.Sizes.{Sizes, Sized, farthest, InReach}
+use Rattle.window.proofs.Fields.{read-n, read-m, size}
 use Rattle.conflict.specs.declared.AdviceRule.{AdviceRule}
 use Rattle.conflict.specs.Divided.{ruleOf, missing}
 use Rattle.conflict.specs.RuleSizes.{RuleSizes, mostMissing, mostBend}
@@ -31,14 +31,7 @@ use Rattle.conflict.specs.RuleSizes.{RuleSizes, mostMissing, mostBend}
 abbrev pub read-call : {x t : ℤ} → SFits w64 x → x ≡ t → Reading (toZ w64 (ofZ w64 x))
 read-call {x} {t} f h = equal-to (toZ-ofZ f ∙ h) (unbounded t)
 
--- ---- an instant; one of the lower side is one of the upper
-module _ (side : Side) (n m : ℕ) (h : InReach side n m) where
-  abbrev pub read-n : Reading (toZ w64 n)
-  read-n = bounded-word n (farthest side) (h .n-hi)
-
-  abbrev pub read-m : Reading (toZ w64 m)
-  read-m = bounded-word m 150000 (h .m-hi)
-
+-- ---- an instant of the lower side is one of the upper
 lower-in-upper : {n m : ℕ} → InReach Lower n m → InReach Upper n m
 lower-in-upper h = record { n-hi = omega (arith, h .n-hi); m-lo = h .m-lo; m-hi = h .m-hi }
 
@@ -56,12 +49,6 @@ sizes Lower z = z
 sizes Upper z = z .0
 
 module _ (s : SensedQuestion) (z : Sizes s) where
-  abbrev pub read-distance : Reading (s .distance)
-  read-distance = bounded (r s) 12000000 (z .r-lo) (z .r-hi)
-
-  abbrev pub read-closing-speed : Reading (toZ w64 (s .«closing_speed»))
-  read-closing-speed = bounded-word (c s) 150000 (z .c-hi)
-
   abbrev pub read-half-height : Reading (toZ w64 (s .«half_height»))
   read-half-height = bounded-word (k s) 12000 (z .k-hi)
 
@@ -103,8 +90,6 @@ pub ruleset numbers = (
   plain-terms,
   read-n,
   read-m,
-  read-distance,
-  read-closing-speed,
   read-half-height,
   read-level,
   read-speed,
@@ -116,25 +101,6 @@ pub ruleset numbers = (
   read-rule-speed,
   read-rule-edge,
 )
-
--- ---- the size of a term is within the bound of its reading
-number-size : (z : ℤ) (B : ℕ) → max0 z + negPart z ≤ B → natAbs z ≤ B
-number-size (pos n) B h = omega arith
-number-size (negsuc n) B h = omega arith
-
-pub size : (t : ℤ) (x : Reading t) → T (x .guard) → natAbs t ≤ x .bound
-size t x g = subst (λ (z : ℤ). natAbs z ≤ x .bound) (sym (x .is g)) (number-size (x .number) (x .bound) (x .small g))
-
-max0-size : (z : ℤ) → max0 z ≤ natAbs z
-max0-size (pos n) = omega arith
-max0-size (negsuc n) = omega arith
-
-pub distance-size : (s : SensedQuestion) (n m : ℕ) → Sizes s → InReach Lower n m → natAbs (distanceAt s n m) ≤ 3609000000000
-distance-size s n m z h =
-    let closing-speed = bounded-natural (c s) 150000 (z .c-hi) in
-    let time = bounded-natural n 12060000 (h .n-hi) in
-    let divisor = bounded-natural m 150000 (h .m-hi) in
-    size (distanceAt s n m) (search numbers depth 20) tt
 
 -- ---- the parts of a rule
 module _ (s : SensedQuestion) (z : Sizes s) where
@@ -185,6 +151,10 @@ rule-sizes Upper s z = record {
 }
 
 -- ---- the missing speed
+max0-size : (z : ℤ) → max0 z ≤ natAbs z
+max0-size (pos n) = omega arith
+max0-size (negsuc n) = omega arith
+
 pub missing-size : (rule : AdviceRule) → RuleSizes rule → missing rule ≤ 160000
 missing-size rule z = omega (arith, max0-size (rule .target -ℤ rule .speed), size (rule .target -ℤ rule .speed) (search numbers depth 20) tt)
 

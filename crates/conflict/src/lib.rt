@@ -1,44 +1,21 @@
-// Whether an instant n/m is in the window, and in conflict on a side: exact 64-bit code for the tests of `path`.
+// Whether an instant n/m is in conflict on a side: exact 64-bit code for the tests of `path`.
 //
 // `path` compares heights times 2·a·m², up to 4.4e19, which 64 bits don't hold. So each comparison here has a factor that its two sides share divided out:
 // an arc stands times 2·m², a straight times 2·a·m. Locals bear document 01's letters (`path`, specs/Letters.antt).
 
 ghost use mathlib.Core.Path.{_≡_};
-ghost use Prim.Native.Nat.{_*_, _<_, _≤_, _^_};
-ghost use lib.IntN.{natAbs};
-ghost use Rattle.integers.specs.Extremes.{max0};
+ghost use Prim.Native.Nat.{_*_, _≤_};
 ghost use Rattle.path.specs.declared.Side.the-variants.{Lower, Upper};
 ghost use Rattle.path.specs.Letters.{u, e};
 ghost use Rattle.path.specs.Paths.{delayHeight, u-d, upperTarget};
-ghost use Rattle.path.specs.Window.{distanceAt, inWindow};
 ghost use Rattle.path.specs.Conflict.{notBeyond, inConflict};
 ghost use Rattle.path.specs.Sizes.{Sizes, Sized, InReach};
 ghost use Rattle.conflict.specs.Divided.{delayNotBeyond, ruleOf, ruleNotBeyond, missing, arcNotBeyond, straightNotBeyond};
 ghost use Rattle.conflict.specs.RuleSizes.{RuleSizes, mostMissing, mostBend};
-use path::Limit;
 use path::SensedQuestion;
 use path::Side;
-
-// max(0, x)
-pub fn positive_part(x: i64) -> u64
-    ensures { λ r. ⌜ r ≡ max0 x ⌝ }
-{
-    if x < 0 {
-        return 0;
-    }
-    x as u64
-}
-
-// |x|
-fn absolute(x: i64) -> u64
-    requires { ⌜ natAbs x < 2 ^ 63 ⌝ }
-    ensures { λ r. ⌜ r ≡ natAbs x ⌝ }
-{
-    if x < 0 {
-        return (-x) as u64;
-    }
-    x as u64
-}
+use window::in_window;
+use window::positive_part;
 
 // The speed u_d at the delay's end.
 pub fn speed_after_delay(s: SensedQuestion) -> i64
@@ -234,38 +211,6 @@ pub fn not_beyond(side: Side, s: SensedQuestion, n: u64, m: u64) -> bool
     match side {
         Side::Lower => lower_not_beyond(s, n, m),
         Side::Upper => upper_not_beyond(s, n, m),
-    }
-}
-
-// r − c·t, times m.
-fn distance_at(s: SensedQuestion, n: u64, m: u64) -> i64
-    requires { ⌜ Sizes s ⌝ }
-    requires { ⌜ InReach Lower n m ⌝ }
-    ensures { λ r. ⌜ r ≡ distanceAt s n m ⌝ }
-{
-    let r = s.distance;
-    let c = s.closing_speed as i64;
-    let n = n as i64;
-    let m = m as i64;
-    r * m - c * n
-}
-
-// Is n/m in the window? Its edges count, and so does the limit itself.
-pub fn in_window(s: SensedQuestion, n: u64, m: u64) -> bool
-    requires { ⌜ Sizes s ⌝ }
-    requires { ⌜ InReach Lower n m ⌝ }
-    ensures { λ r. ⌜ r ≡ inWindow s n m ⌝ }
-{
-    let ahead = distance_at(s, n, m);
-    let apart = absolute(ahead);
-    let p = s.radius;
-    if p * m < apart {
-        return false;
-    }
-    let limit = s.limit;
-    match limit {
-        Limit::Unlimited => true,
-        Limit::Upto(last) => n <= last * m,
     }
 }
 

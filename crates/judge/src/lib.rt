@@ -9,7 +9,6 @@ ghost use Rattle.judge.specs.Sensed.{limitOf, sensedMotion, sensedQuesti
 ghost use Rattle.judge.specs.Verdicts.{oneSidedVerdict, twoSidedVerdict, verdict};
 ghost use Rattle.judge.specs.Answers.{answer, sidesNumber, answerRecord};
 use advisory::Sense;
-use conflict::positive_part;
 use instant::Moment;
 use instant::Time;
 use instant::lowest_terms;
@@ -25,6 +24,7 @@ use question::sense_of;
 use question::two_sided;
 use refusals::check_question;
 use shown::time_shown;
+use window::positive_part;
 
 // The intruder's sensed height w × h, and the sensed speeds u, q and that of the upper target.
 struct Motion {

@@ -1,80 +1,35 @@
 -- The instants that the rule tries, and the second that it searches for, are small: the comparisons at them fit 64 bits, and so do a time's three numbers
 -- 32. Assumes nothing.
-use mathlib.Core.Path.{_≡_, refl, sym, subst}
+use mathlib.Core.Path.{sym, subst}
 use mathlib.Core.List.{[], _∷_}
 use mathlib.Core.Logic.{inl, inr, ⊎-elim}
-use Prim.Native.Nat.{ℕ, zero, suc, _+_, _*_, _<_, _≤_}
+use Prim.Native.Nat.{_+_, _*_, _<_, _≤_}
 use native.Mathlib.Nat.{mul-le-mul}
 use native.Mathlib.Omega.{arith}
-use lib.IntN.{ℤ, pos, negsuc, negℤ, _+ℤ_, _-ℤ_}
-use lib.Signed.{_≤ℤ_}
+use lib.IntN.{ℤ, pos, negsuc, negℤ}
 use Rattle.integers.specs.Extremes.{max0}
 use Rattle.integers.proofs.Quotation.{quote}
 use Rattle.integers.proofs.Certificates.{by≤, gap≤, _⊞_, _⊠_, 0≤pos, pos≤}
 use Rattle.integers.proofs.Laws.{split≤, max0-le}
 use Rattle.instant.specs.declared.Instant.{Instant}
 use Rattle.instant.specs.declared.Moment.the-variants.{At}
-use Rattle.instant.specs.Order.{_÷_, earlier}
+use Rattle.instant.specs.Order.{_÷_}
 use Rattle.instant.specs.Order as order
-use Rattle.instant.proofs.TimeOrder.{earlier-elim}
-use Rattle.path.specs.declared.Limit.{Limit}
-use Rattle.path.specs.declared.Limit.the-variants.{Unlimited, Upto}
 use Rattle.path.specs.declared.SensedQuestion.{SensedQuestion}
 use Rattle.path.specs.declared.Side.{Side}
 use Rattle.path.specs.declared.Side.the-variants.{Lower, Upper}
 use Rattle.path.specs.Paths.{u-d}
-use Rattle.path.specs.Window.{startOf, exitOf, endOf, windowStart, windowEnd}
+use Rattle.path.specs.Window.{windowEnd}
 use Rattle.path.specs.Instants.{Among, listed, turningInstant, pathInstants, instants}
-use Rattle.path.specs.Sizes.{LimitSize, Sizes, Sized, InReach, searchEnd}
+use Rattle.path.specs.Sizes.{Sizes, Sized, searchEnd}
 use Rattle.path.proofs.Membership.{among-one, among-either}
 use Rattle.path.proofs.WindowEnds.{endless-start}
 use Rattle.path.proofs.SideProfiles.{Hit, Endless, conflict-instant, reaches-end}
+use Rattle.window.proofs.EndsInReach.{Near, near-sized, second-near, windowStart-near, windowEnd-near}
 use Rattle.shown.specs.TimeRule.{Picks}
 
-abbrev pub Near : Instant → Type 0
-Near t = InReach Lower (t .n) (t .m)
-
--- ---- the window's ends
-start-near : (c p : ℕ) (r : ℤ) → c ≤ 150000 → r ≤ℤ pos 12000000 → Near (startOf c r p)
-start-near zero p r hc hr = record { n-hi = omega arith; m-lo = omega arith; m-hi = omega arith }
-start-near (suc c) p r hc hr = record {
-  n-hi = max0-le (r -ℤ pos p) 12060000 (by≤ (p ∷ []) (r ∷ []) (gap≤ hr) (λ v. search quote depth 20) tt);
-  m-lo = omega arith;
-  m-hi = hc;
-}
-
-exit-near : (c p : ℕ) (r : ℤ) → suc c ≤ 150000 → p ≤ 60000 → r ≤ℤ pos 12000000 → Near (max0 (r +ℤ pos p) ÷ suc c)
-exit-near c p r hc hp hr = record {
-  n-hi = max0-le (r +ℤ pos p) 12060000 (by≤ (p ∷ []) (r ∷ []) (gap≤ hr ⊞ gap≤ (pos≤ hp)) (λ v. search quote depth 20) tt);
-  m-lo = omega arith;
-  m-hi = hc;
-}
-
-pub second-near : (L : ℕ) → L ≤ 600 → Near (L ÷ 1)
-second-near L h = record { n-hi = omega arith; m-lo = omega arith; m-hi = omega arith }
-
-end-near : (c p : ℕ) (r : ℤ) (l : Limit) → c ≤ 150000 → p ≤ 60000 → r ≤ℤ pos 12000000 → LimitSize l → (t : Instant) → Among t (listed (endOf c r p l)) → Near t
-end-near zero p r Unlimited hc hp hr hl t i = absurd i
-end-near zero p r (Upto L) hc hp hr hl t i = among-one Near (L ÷ 1) t (second-near L hl) i
-end-near (suc c) p r Unlimited hc hp hr hl t i = among-one Near (max0 (r +ℤ pos p) ÷ suc c) t (exit-near c p r hc hp hr) i
-end-near (suc c) p r (Upto L) hc hp hr hl t i = among-one Near (earlier (max0 (r +ℤ pos p) ÷ suc c) (L ÷ 1)) t
-    (earlier-elim (max0 (r +ℤ pos p) ÷ suc c) (L ÷ 1) Near (λ _. exit-near c p r hc hp hr) (λ _. second-near L hl)) i
-
+-- ---- d and the turning instant
 module _ (s : SensedQuestion) (z : Sizes s) where
-  pub moving-exit-near : ¬ (s .«closing_speed» ≡ 0) → Near (exitOf (s .«closing_speed») (s .distance) (s .radius))
-  moving-exit-near h = go (s .«closing_speed») (z .c-hi) h
-    where
-      go : (c : ℕ) → c ≤ 150000 → ¬ (c ≡ 0) → Near (exitOf c (s .distance) (s .radius))
-      go zero l k = absurd (k refl)
-      go (suc c) l k = exit-near c (s .radius) (s .distance) l (z .p-hi) (z .r-hi)
-
-  pub windowStart-near : Near (windowStart s)
-  windowStart-near = start-near (s .«closing_speed») (s .radius) (s .distance) (z .c-hi) (z .r-hi)
-
-  pub windowEnd-near : (t : Instant) → Among t (listed (windowEnd s)) → Near t
-  windowEnd-near = end-near (s .«closing_speed») (s .radius) (s .distance) (s .limit) (z .c-hi) (z .p-hi) (z .r-hi) (z .limit-hi)
-
-  -- ---- d and the turning instant
   pub delay-near : Near (s .delay ÷ 1)
   delay-near = second-near (s .delay) (omega (arith, z .d-hi))
 
@@ -112,9 +67,6 @@ instants-near side s z t (inr i) = ⊎-elim (path-near side s z t) (windowEnd-ne
 last-small : (side : Side) (s : SensedQuestion) → Sized side s → searchEnd side s ≤ 200480000
 last-small Lower s z = omega (arith, z .d-hi)
 last-small Upper s z = omega arith
-
-pub near-sized : (t : Instant) → Near t → order.Sized t
-near-sized t h = record { n = omega (arith, h .n-hi); m = omega (arith, h .m-hi) }
 
 -- ---- a moment that the rule picks
 pub picked-sized : (side : Side) (s : SensedQuestion) → Sized side s → (t : Instant) → Picks side s (At t) → order.Sized t

@@ -3,4 +3,4 @@ pub mod Steps
 pub mod OpenWindow
 pub mod RulePicks
 pub mod InstantsInReach
-pub mod CodeInstants
+pub mod CodeTurning

@@ -4,75 +4,26 @@ ghost use mathlib.Core.List.{_∷_, _++_};
 ghost use Rattle.instant.specs.declared.Moment.the-variants.{At, Never};
 ghost use Rattle.instant.specs.Order.{_÷_};
 ghost use Rattle.path.specs.declared.Side.the-variants.{Lower};
-ghost use Rattle.path.specs.Letters.{r, c, p, q, a, d};
+ghost use Rattle.path.specs.Letters.{q, a, d};
 ghost use Rattle.path.specs.Paths.{u-d};
-ghost use Rattle.path.specs.Window.{windowStart, exitOf, windowEnd};
+ghost use Rattle.path.specs.Window.{windowStart, windowEnd};
 ghost use Rattle.path.specs.Instants.{listed, turningInstant, pathInstants};
 ghost use Rattle.path.specs.Sizes.{Sizes, Sized, searchStart, searchEnd};
 ghost use Rattle.shown.specs.TimeShown.{approaches, searched, shownFrom, timeShown};
 ghost use Rattle.shown.specs.Search.{Opened, StartTried, Tried, Searchable, firstReached};
 use conflict::in_conflict;
-use conflict::in_window;
 use conflict::not_beyond;
-use conflict::positive_part;
 use conflict::speed_after_delay;
 use conflict::upper_target;
 use instant::Instant;
 use instant::Moment;
-use instant::earlier;
 use instant::no_later;
-use path::Limit;
 use path::SensedQuestion;
 use path::Side;
-
-fn window_start(s: SensedQuestion) -> Instant
-    requires { ⌜ Sizes s ⌝ }
-    ensures { λ t. ⌜ t ≡ windowStart s ⌝ }
-{
-    let c = s.closing_speed;
-    if c == 0 {
-        return Instant { n: 0, m: 1 };
-    }
-    let r = s.distance;
-    let p = s.radius as i64;
-    let n = positive_part(r - p);
-    Instant { n: n, m: c }
-}
-
-// Where the intruder leaves the puck's radius, for a closing speed above 0.
-fn window_exit(s: SensedQuestion) -> Instant
-    requires { ⌜ Sizes s ⌝ }
-    ensures { λ t. ⌜ t ≡ exitOf (c s) (r s) (p s) ⌝ }
-{
-    let c = s.closing_speed;
-    let r = s.distance;
-    let p = s.radius as i64;
-    let n = positive_part(r + p);
-    Instant { n: n, m: c }
-}
-
-fn window_end(s: SensedQuestion) -> Moment
-    requires { ⌜ Sizes s ⌝ }
-    ensures { λ t. ⌜ t ≡ windowEnd s ⌝ }
-{
-    let c = s.closing_speed;
-    let limit = s.limit;
-    match limit {
-        Limit::Unlimited => {
-            if c == 0 {
-                return Moment::Never;
-            }
-            Moment::At(window_exit(s))
-        }
-        Limit::Upto(last) => {
-            let end = Instant { n: last, m: 1 };
-            if c == 0 {
-                return Moment::At(end);
-            }
-            Moment::At(earlier(window_exit(s), end))
-        }
-    }
-}
+use window::in_window;
+use window::positive_part;
+use window::window_end;
+use window::window_start;
 
 // The path's lowest point after the delay, if it has one.
 fn turning_instant(s: SensedQuestion) -> Moment

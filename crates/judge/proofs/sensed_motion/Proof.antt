@@ -8,7 +8,7 @@ use mir.Val.{toZ, ofZ}
 use mir.Facts.{toZ-ofZ}
 use Rattle.integers.proofs.Machine.{Reading, machine, fits, result}
 use Rattle.advisory.specs.Sign.{sensed}
-use Rattle.conflict.proofs.Fields.{size}
+use Rattle.window.proofs.Fields.{size}
 use Rattle.judge.specs.declared.Motion.{Motion}
 use Rattle.question.specs.Refusals.{senseOf}
 use Rattle.judge.proofs.PlainFields.{read-height, read-speed, read-intruder, read-target, read-upper-target}

@@ -13,9 +13,10 @@ use Rattle.path.specs.declared.Side.the-variants.{Lower}
 use Rattle.path.specs.Paths.{u-d}
 use Rattle.path.specs.Window.{windowEnd}
 use Rattle.path.specs.Instants.{Among, listed, turningInstant}
+use Rattle.window.proofs.EndsInReach.{Near, near-sized, windowStart-near}
 use Rattle.shown.specs.TimeShown.{shownFrom}
 use Rattle.shown.specs.Search.{Tried}
-use Rattle.shown.proofs.InstantsInReach.{Near, delay-near, windowStart-near, turnings-near, near-sized}
+use Rattle.shown.proofs.InstantsInReach.{delay-near, turnings-near}
 use Rattle.shown.proofs.Steps.{hit, miss}
 use Rattle.shown.proofs.OpenWindow.{turned-before}
 use Rattle.shown.proofs.from_delay.Statement.{statement}

@@ -8,8 +8,9 @@ use Rattle.instant.specs.declared.Moment.the-variants.{At}
 use Rattle.path.specs.Window.{windowEnd}
 use Rattle.path.specs.Instants.{Among, listed}
 use Rattle.conflict.proofs.Fields.{side-reach}
+use Rattle.window.proofs.EndsInReach.{windowEnd-near}
 use Rattle.shown.specs.TimeShown.{shownFrom}
-use Rattle.shown.proofs.InstantsInReach.{sizes-of, windowEnd-near}
+use Rattle.shown.proofs.InstantsInReach.{sizes-of}
 use Rattle.shown.proofs.Steps.{inside, hit, miss, only-search, ended}
 use Rattle.shown.proofs.OpenWindow.{end-in}
 use Rattle.shown.proofs.from_end.Statement.{statement}

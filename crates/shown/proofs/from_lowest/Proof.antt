@@ -7,7 +7,8 @@ use Rattle.instant.specs.declared.Moment.{Moment}
 use Rattle.path.specs.declared.Side.the-variants.{Lower}
 use Rattle.path.specs.Window.{inWindow, windowEnd}
 use Rattle.path.specs.Instants.{Among, listed}
-use Rattle.shown.proofs.InstantsInReach.{Near, turnings-near}
+use Rattle.window.proofs.EndsInReach.{Near}
+use Rattle.shown.proofs.InstantsInReach.{turnings-near}
 use Rattle.shown.proofs.Steps.{inside, outside-clear, hit, miss}
 use Rattle.shown.proofs.OpenWindow.{lowest-beyond}
 use Rattle.shown.proofs.from_lowest.Statement.{statement}

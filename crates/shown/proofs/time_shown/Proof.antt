@@ -1,6 +1,5 @@
 -- `shown::time_shown` meets its contract: the window is empty or holds its start, which has a conflict or not, and the rest is the side's.
 use mathlib.Core.Path.{_≡_, sym, ap, _∙_, subst}
-use mathlib.Core.Bool.{true}
 use mathlib.Core.List.{_++_}
 use borrow.Author.Needs.{needs}
 use borrow.Author.Tests.{not-true, not-false}
@@ -11,9 +10,10 @@ use Rattle.path.specs.Window.{inWindow, windowStart, windowEnd}
 use Rattle.path.specs.Conflict.{notBeyond, inConflict}
 use Rattle.path.specs.Instants.{listed, pathInstants}
 use Rattle.conflict.proofs.Fields.{side-reach}
+use Rattle.window.proofs.EndsInReach.{Near, windowStart-near}
 use Rattle.shown.specs.TimeShown.{shownFrom, timeShown}
 use Rattle.shown.specs.Search.{Opened, StartTried, Tried}
-use Rattle.shown.proofs.InstantsInReach.{Near, sizes-of, windowStart-near}
+use Rattle.shown.proofs.InstantsInReach.{sizes-of}
 use Rattle.shown.proofs.Steps.{inside, hit, miss}
 use Rattle.shown.proofs.OpenWindow.{empty-shown}
 use Rattle.shown.proofs.time_shown.Statement.{statement}

@@ -11,7 +11,7 @@ use Rattle.instant.specs.declared.Moment.the-variants.{At}
 use Rattle.instant.specs.Order.{_÷_}
 use Rattle.path.specs.Paths.{u-d}
 use Rattle.conflict.proofs.Fields.{after-delay-size}
-use Rattle.shown.proofs.CodeInstants.{no-turning, turning, zero-minus}
+use Rattle.shown.proofs.CodeTurning.{no-turning, turning, zero-minus}
 use Rattle.shown.proofs.InstantsInReach.{back-size}
 use Rattle.shown.proofs.turning_instant.Statement.{statement}
 use Rattle.shown.proofs.turning_instant.Tie as tie

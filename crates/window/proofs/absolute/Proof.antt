@@ -1,4 +1,4 @@
--- `conflict::absolute` meets its contract: a negative number is negated, which keeps its absolute value. Assumes nothing.
+-- `window::absolute` meets its contract: a negative number is negated, which keeps its absolute value. Assumes nothing.
 use mathlib.Core.Path.{_≡_, ap, _∙_}
 use mathlib.Core.Bool.{true}
 use Prim.Native.Nat.{_<_, _^_}
@@ -10,8 +10,8 @@ use mir.Syntax.{w64}
 use mir.Val.{toZ, ofZ}
 use mir.Facts.{toZ-ofZ, fits-natAbs}
 use Rattle.integers.proofs.Machine.{Reading, fitting, bounded-absolute, machine, fits, result, passed, failed}
-use Rattle.conflict.proofs.absolute.Statement.{statement}
-use Rattle.conflict.proofs.absolute.Tie as tie
+use Rattle.window.proofs.absolute.Statement.{statement}
+use Rattle.window.proofs.absolute.Tie as tie
 
 negated-size : (x : ℤ) → x <ℤ pos 0 → natAbs (pos 0 -ℤ x) ≡ natAbs x
 negated-size (pos n) h = absurd (omega (arith, ltb→lt n 0 (h .lt)))

@@ -1,13 +1,13 @@
--- `shown::window_start` meets its contract: r - p fits, and c is 0 or not.
+-- `window::window_start` meets its contract: r - p fits, and c is 0 or not.
 use mathlib.Core.Path.{sym, ap, _∙_}
 use Prim.Native.Nat.{ℕ}
 use borrow.Author.Needs.{needs}
 use Rattle.integers.proofs.Machine.{bounded, bounded-word, machine, fits, plain-terms, plain-call}
 use Rattle.instant.specs.Order.{_÷_}
 use Rattle.path.specs.Window.{startOf}
-use Rattle.shown.proofs.CodeInstants.{moving-start}
-use Rattle.shown.proofs.window_start.Statement.{statement}
-use Rattle.shown.proofs.window_start.Tie as tie
+use Rattle.window.proofs.CodeEnds.{moving-start}
+use Rattle.window.proofs.window_start.Statement.{statement}
+use Rattle.window.proofs.window_start.Tie as tie
 
 returns : tie.Need-returns
 returns c = let s = c .before .args .s in sym (ap (λ (k : ℕ). startOf k (s .distance) (s .radius)) (c .if1 .taken))

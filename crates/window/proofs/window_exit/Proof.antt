@@ -1,11 +1,11 @@
--- `shown::window_exit` meets its contract: r + p fits.
+-- `window::window_exit` meets its contract: r + p fits.
 use mathlib.Core.Path.{ap}
 use Prim.Native.Nat.{ℕ}
 use borrow.Author.Needs.{needs}
 use Rattle.integers.proofs.Machine.{bounded, bounded-word, machine, fits, plain-terms, plain-call}
 use Rattle.instant.specs.Order.{_÷_}
-use Rattle.shown.proofs.window_exit.Statement.{statement}
-use Rattle.shown.proofs.window_exit.Tie as tie
+use Rattle.window.proofs.window_exit.Statement.{statement}
+use Rattle.window.proofs.window_exit.Tie as tie
 
 cast-p : tie.Need-cast-p
 cast-p c = search needs

@@ -1,4 +1,4 @@
--- `shown::window_end` meets its contract: by cases on the limit and on c; both ends are small, so the earlier one is found exactly.
+-- `window::window_end` meets its contract: by cases on the limit and on c; both ends are small, so the earlier one is found exactly.
 use mathlib.Core.Path.{sym, ap, ap₂, _∙_, subst}
 use Prim.Native.Nat.{ℕ}
 use borrow.Author.Needs.{needs}
@@ -8,10 +8,10 @@ use Rattle.instant.specs.Order.{Sized, _÷_, earlier}
 use Rattle.path.specs.declared.Limit.{Limit}
 use Rattle.path.specs.Window.{endOf}
 use Rattle.path.specs.Sizes.{LimitSize}
-use Rattle.shown.proofs.CodeInstants.{moving-unlimited, moving-limited}
-use Rattle.shown.proofs.InstantsInReach.{near-sized, second-near, moving-exit-near}
-use Rattle.shown.proofs.window_end.Statement.{statement}
-use Rattle.shown.proofs.window_end.Tie as tie
+use Rattle.window.proofs.CodeEnds.{moving-unlimited, moving-limited}
+use Rattle.window.proofs.EndsInReach.{near-sized, second-near, moving-exit-near}
+use Rattle.window.proofs.window_end.Statement.{statement}
+use Rattle.window.proofs.window_end.Tie as tie
 
 enum-told : tie.Need-enum-told
 enum-told c = search needs

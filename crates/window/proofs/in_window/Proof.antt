@@ -1,4 +1,4 @@
--- `conflict::in_window` meets its contract: the two tests are those of the definition, and their products fit. Assumes nothing.
+-- `window::in_window` meets its contract: the two tests are those of the definition, and their products fit. Assumes nothing.
 use mathlib.Core.Path.{_≡_, sym, subst, ap, _∙_}
 use mathlib.Core.Bool.{Bool, false, _&&_}
 use Prim.Native.Nat.{ℕ, _*_, _<_, _≤_}
@@ -13,9 +13,9 @@ use Rattle.path.specs.declared.Limit.{Limit}
 use Rattle.path.specs.declared.SensedQuestion.{SensedQuestion}
 use Rattle.path.specs.Window.{inTime, distanceAt, inWindow}
 use Rattle.path.specs.Sizes.{LimitSize}
-use Rattle.conflict.proofs.Fields.{size, distance-size}
-use Rattle.conflict.proofs.in_window.Statement.{statement}
-use Rattle.conflict.proofs.in_window.Tie as tie
+use Rattle.window.proofs.Fields.{size, distance-size}
+use Rattle.window.proofs.in_window.Statement.{statement}
+use Rattle.window.proofs.in_window.Tie as tie
 
 -- the radius test decides, or leaves it to the limit
 module _ (s : SensedQuestion) (n m apart : ℕ) (e : apart ≡ natAbs (distanceAt s n m)) where

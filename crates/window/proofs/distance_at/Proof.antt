@@ -1,9 +1,9 @@
--- `conflict::distance_at` meets its contract: each product fits, and their difference is the definition's. Assumes nothing.
+-- `window::distance_at` meets its contract: each product fits, and their difference is the definition's. Assumes nothing.
 use borrow.Author.Needs.{needs}
 use Rattle.integers.proofs.Machine.{fits, result}
-use Rattle.conflict.proofs.Fields.{numbers}
-use Rattle.conflict.proofs.distance_at.Statement.{statement}
-use Rattle.conflict.proofs.distance_at.Tie as tie
+use Rattle.window.proofs.Fields.{numbers}
+use Rattle.window.proofs.distance_at.Statement.{statement}
+use Rattle.window.proofs.distance_at.Tie as tie
 
 returns : tie.Need-returns
 returns c = let (z, h) = c .before .before .pre in result (search numbers depth 20) tt

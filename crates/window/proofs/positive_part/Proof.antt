@@ -1,4 +1,4 @@
--- `conflict::positive_part` meets its contract: what the test says of the number decides which case of `max0` it is. Assumes nothing.
+-- `window::positive_part` meets its contract: what the test says of the number decides which case of `max0` it is. Assumes nothing.
 use mathlib.Core.Path.{sym, ap, _∙_}
 use lib.IntN.{natAbs}
 use lib.Signed.{pos-natAbs, yes-nonNeg}
@@ -6,8 +6,8 @@ use mir.Facts.{toZ-ofZ, fits-natAbs}
 use Rattle.integers.proofs.Certificates.{nat≡}
 use Rattle.integers.proofs.Laws.{<ℤ-≤ℤ, max0-none, max0-same}
 use Rattle.integers.proofs.Machine.{fitting, machine, passed, failed}
-use Rattle.conflict.proofs.positive_part.Statement.{statement}
-use Rattle.conflict.proofs.positive_part.Tie as tie
+use Rattle.window.proofs.positive_part.Statement.{statement}
+use Rattle.window.proofs.positive_part.Tie as tie
 
 returns : tie.Need-returns
 returns c = let z = c .before in let v = fitting (z .args .x) (z .fits .x) in sym (max0-none (z .args .x) (<ℤ-≤ℤ (passed (c .if1 .taken) (search machine) tt)))

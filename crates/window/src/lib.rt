@@ -1,0 +1,117 @@
+// The window at an instant n/m, and its two ends: exact 64-bit code for the definitions of `path`.
+// Locals bear document 01's letters (`path`, specs/Letters.antt).
+ghost use mathlib.Core.Path.{_≡_};
+ghost use Prim.Native.Nat.{_<_, _^_};
+ghost use lib.IntN.{natAbs};
+ghost use Rattle.integers.specs.Extremes.{max0};
+ghost use Rattle.path.specs.declared.Side.the-variants.{Lower};
+ghost use Rattle.path.specs.Letters.{r, c, p};
+ghost use Rattle.path.specs.Window.{distanceAt, inWindow, windowStart, exitOf, windowEnd};
+ghost use Rattle.path.specs.Sizes.{Sizes, InReach};
+use instant::Instant;
+use instant::Moment;
+use instant::earlier;
+use path::Limit;
+use path::SensedQuestion;
+
+// max(0, x)
+pub fn positive_part(x: i64) -> u64
+    ensures { λ r. ⌜ r ≡ max0 x ⌝ }
+{
+    if x < 0 {
+        return 0;
+    }
+    x as u64
+}
+
+// |x|
+fn absolute(x: i64) -> u64
+    requires { ⌜ natAbs x < 2 ^ 63 ⌝ }
+    ensures { λ r. ⌜ r ≡ natAbs x ⌝ }
+{
+    if x < 0 {
+        return (-x) as u64;
+    }
+    x as u64
+}
+
+// r − c·t, times m.
+fn distance_at(s: SensedQuestion, n: u64, m: u64) -> i64
+    requires { ⌜ Sizes s ⌝ }
+    requires { ⌜ InReach Lower n m ⌝ }
+    ensures { λ r. ⌜ r ≡ distanceAt s n m ⌝ }
+{
+    let r = s.distance;
+    let c = s.closing_speed as i64;
+    let n = n as i64;
+    let m = m as i64;
+    r * m - c * n
+}
+
+// Is n/m in the window? Its edges count, and so does the limit itself.
+pub fn in_window(s: SensedQuestion, n: u64, m: u64) -> bool
+    requires { ⌜ Sizes s ⌝ }
+    requires { ⌜ InReach Lower n m ⌝ }
+    ensures { λ r. ⌜ r ≡ inWindow s n m ⌝ }
+{
+    let ahead = distance_at(s, n, m);
+    let apart = absolute(ahead);
+    let p = s.radius;
+    if p * m < apart {
+        return false;
+    }
+    let limit = s.limit;
+    match limit {
+        Limit::Unlimited => true,
+        Limit::Upto(last) => n <= last * m,
+    }
+}
+
+pub fn window_start(s: SensedQuestion) -> Instant
+    requires { ⌜ Sizes s ⌝ }
+    ensures { λ t. ⌜ t ≡ windowStart s ⌝ }
+{
+    let c = s.closing_speed;
+    if c == 0 {
+        return Instant { n: 0, m: 1 };
+    }
+    let r = s.distance;
+    let p = s.radius as i64;
+    let n = positive_part(r - p);
+    Instant { n: n, m: c }
+}
+
+// Where the intruder leaves the puck's radius, for a closing speed above 0.
+fn window_exit(s: SensedQuestion) -> Instant
+    requires { ⌜ Sizes s ⌝ }
+    ensures { λ t. ⌜ t ≡ exitOf (c s) (r s) (p s) ⌝ }
+{
+    let c = s.closing_speed;
+    let r = s.distance;
+    let p = s.radius as i64;
+    let n = positive_part(r + p);
+    Instant { n: n, m: c }
+}
+
+pub fn window_end(s: SensedQuestion) -> Moment
+    requires { ⌜ Sizes s ⌝ }
+    ensures { λ t. ⌜ t ≡ windowEnd s ⌝ }
+{
+    let c = s.closing_speed;
+    let limit = s.limit;
+    match limit {
+        Limit::Unlimited => {
+            if c == 0 {
+                return Moment::Never;
+            }
+            Moment::At(window_exit(s))
+        }
+        Limit::Upto(last) => {
+            let end = Instant { n: last, m: 1 };
+            if c == 0 {
+                return Moment::At(end);
+            }
+            Moment::At(earlier(window_exit(s), end))
+        }
+    }
+}
