@@ -46,7 +46,7 @@ unfoldable pub stateAfterAll : State → List Record → State
 stateAfterAll state [] = state
 stateAfterAll state (first ∷ rest) = stateAfterAll (stateAfter state first) rest
 
--- Stored values are within their limits (judge, specs/Refusals.antt).
+-- Stored values are within their limits (question, specs/Refusals.antt).
 abbrev pub EncounterWithin : LastEncounter → Type 0
 EncounterWithin Absent = Unit {0}
 EncounterWithin (Present x) = T (encounterWithin x)

@@ -44,10 +44,6 @@ side-reach Lower h = h
 side-reach Upper h = lower-in-upper h
 
 -- ---- a question
-pub sizes : (side : Side) {s : SensedQuestion} → Sized side s → Sizes s
-sizes Lower z = z
-sizes Upper z = z .0
-
 module _ (s : SensedQuestion) (z : Sizes s) where
   abbrev pub read-half-height : Reading (toZ w64 (s .«half_height»))
   read-half-height = bounded-word (k s) 12000 (z .k-hi)

@@ -9,3 +9,4 @@ pub mod SideProfiles
 pub mod Decisions
 pub mod WholeSeconds
 pub mod Risen
+pub mod SideSizes

@@ -24,6 +24,7 @@ use Rattle.path.specs.Instants.{Among, listed, turningInstant, pathInstants, in
 use Rattle.path.specs.Sizes.{Sizes, Sized, searchEnd}
 use Rattle.path.proofs.Membership.{among-one, among-either}
 use Rattle.path.proofs.WindowEnds.{endless-start}
+use Rattle.path.proofs.SideSizes.{sizes-of}
 use Rattle.path.proofs.SideProfiles.{Hit, Endless, conflict-instant, reaches-end}
 use Rattle.window.proofs.EndsInReach.{Near, near-sized, second-near, windowStart-near, windowEnd-near}
 use Rattle.shown.specs.TimeRule.{Picks}
@@ -54,10 +55,6 @@ path-near : (side : Side) (s : SensedQuestion) → Sizes s → (t : Instant) →
 path-near Lower s z t (inl e) = subst Near (sym e) (delay-near s z)
 path-near Lower s z t (inr i) = turnings-near s z (s .target) t i
 path-near Upper s z t i = absurd i
-
-pub sizes-of : (side : Side) (s : SensedQuestion) → Sized side s → Sizes s
-sizes-of Lower s z = z
-sizes-of Upper s z = z .0
 
 pub instants-near : (side : Side) (s : SensedQuestion) → Sizes s → (t : Instant) → Among t (instants side s) → Near t
 instants-near side s z t (inl e) = subst Near (sym e) (windowStart-near s z)

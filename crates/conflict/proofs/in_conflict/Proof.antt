@@ -7,7 +7,8 @@ use Rattle.path.specs.declared.SensedQuestion.{SensedQuestion}
 use Rattle.path.specs.declared.Side.{Side}
 use Rattle.path.specs.Window.{inWindow}
 use Rattle.path.specs.Conflict.{notBeyond, inConflict}
-use Rattle.conflict.proofs.Fields.{sizes, side-reach}
+use Rattle.path.proofs.SideSizes.{sizes-of}
+use Rattle.conflict.proofs.Fields.{side-reach}
 use Rattle.conflict.proofs.in_conflict.Statement.{statement}
 use Rattle.conflict.proofs.in_conflict.Tie as tie
 
@@ -16,7 +17,7 @@ unfolding inConflict
 by-window side s n m w e = sym (ap (λ (w : Bool). w && notBeyond side s n m) e)
 
 in-window-requires : tie.Need-in-window-requires
-in-window-requires c κs = (sizes (c .args .side) (c .pre .0), c .pre .1)
+in-window-requires c κs = (sizes-of (c .args .side) (c .args .s) (c .pre .0), c .pre .1)
 
 not-beyond-requires : tie.Need-not-beyond-requires
 not-beyond-requires c κs = let y = c .before .before in (y .pre .0, side-reach (y .args .side) (y .pre .1))

@@ -5,7 +5,7 @@ use Prim.Native.Nat.{ℕ, _-_}
 use native.Mathlib.Omega.{arith}
 use borrow.Author.Needs.{needs}
 use Rattle.path.specs.Sizes.{searchStart}
-use Rattle.shown.proofs.InstantsInReach.{sizes-of}
+use Rattle.path.proofs.SideSizes.{sizes-of}
 use Rattle.shown.proofs.Steps.{Bracket, bracket-start, bracket-found, search-in-reach}
 use Rattle.shown.proofs.first_second.Statement.{statement}
 use Rattle.shown.proofs.first_second.Tie as tie

@@ -10,7 +10,7 @@ use Rattle.path.specs.Instants.{Among, listed}
 use Rattle.conflict.proofs.Fields.{side-reach}
 use Rattle.window.proofs.EndsInReach.{windowEnd-near}
 use Rattle.shown.specs.TimeShown.{shownFrom}
-use Rattle.shown.proofs.InstantsInReach.{sizes-of}
+use Rattle.path.proofs.SideSizes.{sizes-of}
 use Rattle.shown.proofs.Steps.{inside, hit, miss, only-search, ended}
 use Rattle.shown.proofs.OpenWindow.{end-in}
 use Rattle.shown.proofs.from_end.Statement.{statement}

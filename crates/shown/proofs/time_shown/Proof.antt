@@ -13,7 +13,7 @@ use Rattle.conflict.proofs.Fields.{side-reach}
 use Rattle.window.proofs.EndsInReach.{Near, windowStart-near}
 use Rattle.shown.specs.TimeShown.{shownFrom, timeShown}
 use Rattle.shown.specs.Search.{Opened, StartTried, Tried}
-use Rattle.shown.proofs.InstantsInReach.{sizes-of}
+use Rattle.path.proofs.SideSizes.{sizes-of}
 use Rattle.shown.proofs.Steps.{inside, hit, miss}
 use Rattle.shown.proofs.OpenWindow.{empty-shown}
 use Rattle.shown.proofs.time_shown.Statement.{statement}
