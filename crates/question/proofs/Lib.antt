@@ -1,1 +1,2 @@
 pub mod WithinLimits
+pub mod SameFields

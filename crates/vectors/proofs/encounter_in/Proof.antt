@@ -1,18 +1,11 @@
 -- `vectors::encounter_in` meets its contract: field by field, each stored as it was read.
-use mathlib.Core.Path.{_≡_, _∙_}
-use lib.IntN.{ℤ}
+use mathlib.Core.Path.{_∙_}
 use mir.Facts.{toZ-ofZ}
 use borrow.Author.Needs.{needs, sfits-of}
-use Rattle.question.specs.declared.Encounter.{Encounter}
+use Rattle.question.proofs.SameFields.{same-encounter}
 use Rattle.vectors.specs.Cases.{encounterIn}
 use Rattle.vectors.proofs.encounter_in.Statement.{statement}
 use Rattle.vectors.proofs.encounter_in.Tie as tie
-
-same-encounter : {r r′ h h′ c c′ v v′ i i′ : ℤ} → r ≡ r′ → h ≡ h′ → c ≡ c′ → v ≡ v′ → i ≡ i′
-    → _≡_ {A = Encounter}
-    (record { distance = r; height = h; «closing_speed» = c; speed = v; «intruder_speed» = i })
-    (record { distance = r′; height = h′; «closing_speed» = c′; speed = v′; «intruder_speed» = i′ })
-same-encounter e₁ e₂ e₃ e₄ e₅ = cc
 
 number-at-requires : tie.Need-number-at-requires
 number-at-requires c κs = search needs

@@ -1,18 +1,11 @@
 -- `vectors::question_in` meets its contract: field by field, each stored as it was read.
-use mathlib.Core.Path.{_≡_, _∙_}
-use lib.IntN.{ℤ}
+use mathlib.Core.Path.{_∙_}
 use mir.Facts.{toZ-ofZ}
 use borrow.Author.Needs.{needs, sfits-of}
-use Rattle.question.specs.declared.Question.{Question}
+use Rattle.question.proofs.SameFields.{same-question}
 use Rattle.vectors.specs.Cases.{questionIn}
 use Rattle.vectors.proofs.question_in.Statement.{statement}
 use Rattle.vectors.proofs.question_in.Tie as tie
-
-same-question : {s s′ w w′ t t′ u u′ a a′ b b′ d d′ l l′ : ℤ} → s ≡ s′ → w ≡ w′ → t ≡ t′ → u ≡ u′ → a ≡ a′ → b ≡ b′ → d ≡ d′ → l ≡ l′
-    → _≡_ {A = Question}
-    (record { sides = s; sense = w; target = t; «upper_target» = u; strength = a; «upper_strength» = b; delay = d; limit = l })
-    (record { sides = s′; sense = w′; target = t′; «upper_target» = u′; strength = a′; «upper_strength» = b′; delay = d′; limit = l′ })
-same-question e₁ e₂ e₃ e₄ e₅ e₆ e₇ e₈ = cc
 
 number-at-requires : tie.Need-number-at-requires
 number-at-requires c κs = search needs

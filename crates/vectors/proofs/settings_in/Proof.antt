@@ -1,18 +1,11 @@
 -- `vectors::settings_in` meets its contract: field by field, each stored as it was read.
-use mathlib.Core.Path.{_≡_, _∙_}
-use lib.IntN.{ℤ}
+use mathlib.Core.Path.{_∙_}
 use mir.Facts.{toZ-ofZ}
 use borrow.Author.Needs.{needs, sfits-of}
-use Rattle.question.specs.declared.Settings.{Settings}
+use Rattle.question.proofs.SameFields.{same-settings}
 use Rattle.vectors.specs.Cases.{settingsIn}
 use Rattle.vectors.proofs.settings_in.Statement.{statement}
 use Rattle.vectors.proofs.settings_in.Tie as tie
-
-same-settings : {p p′ k k′ e e′ : ℤ} → p ≡ p′ → k ≡ k′ → e ≡ e′
-    → _≡_ {A = Settings}
-    (record { radius = p; «half_height» = k; «delay_acceleration» = e })
-    (record { radius = p′; «half_height» = k′; «delay_acceleration» = e′ })
-same-settings e₁ e₂ e₃ = cc
 
 number-at-requires : tie.Need-number-at-requires
 number-at-requires c κs = search needs
