@@ -2,6 +2,8 @@
 // then its values. The lines that `stdout` expects were computed apart from the judge, in exact fractions.
 ghost use mathlib.Core.Path.{_≡_};
 ghost use Prim.Native.Nat.{_<_};
+ghost use Rattle.judge.specs.declared.Answer.the-variants.{Judged};
+ghost use Rattle.judge.specs.Answers.{answerRecord};
 use coded::CodedQuestion;
 use coded::coded_question;
 use instant::Time;
@@ -313,36 +315,52 @@ fn write_time(t: Time) {
     write_number(t.divisor);
 }
 
-fn write_verdict(verdict: Verdict) {
+fn verdict_kind(verdict: Verdict) -> u64
+    ensures { λ r. ⌜ r ≡ answerRecord (Judged verdict) .kind ⌝ }
+{
+    match verdict {
+        Verdict::Clear(_) => 65,
+        Verdict::Conflict(_) => 66,
+        Verdict::Conflicts(_, _) => 67,
+    }
+}
+
+// Document 01's number of an answer's kind.
+fn answer_kind(answer: Answer) -> u64
+    ensures { λ r. ⌜ r ≡ answerRecord answer .kind ⌝ }
+{
+    match answer {
+        Answer::Judged(verdict) => verdict_kind(verdict),
+        Answer::Refused(_) => 68,
+    }
+}
+
+fn write_values(verdict: Verdict) {
     match verdict {
         Verdict::Clear(sides) => {
-            write(b"65");
             write_number(sides_number(sides) as u64);
         }
         Verdict::Conflict(t) => {
-            write(b"66");
             write_time(t);
         }
         Verdict::Conflicts(lower, upper) => {
-            write(b"67");
             write_time(lower);
             write_time(upper);
         }
     }
-    write(b"\n");
 }
 
-fn write_refusal(number: u8) {
-    write(b"68");
-    write_number(number as u64);
+fn write_answer(answer: Answer) {
+    io::print_decimal(libc::STDOUT_FILENO, answer_kind(answer));
+    match answer {
+        Answer::Judged(verdict) => write_values(verdict),
+        Answer::Refused(number) => write_number(number as u64),
+    }
     write(b"\n");
 }
 
 fn ask(encounter: Encounter, settings: Settings, question: Question) {
-    match judge(encounter, settings, question) {
-        Answer::Judged(verdict) => write_verdict(verdict),
-        Answer::Refused(number) => write_refusal(number),
-    }
+    write_answer(judge(encounter, settings, question));
 }
 
 fn ask_numbers(n: [i64; 16]) {
@@ -416,7 +434,7 @@ fn ask_two_sided(settings: Settings, row: [i64; 11]) {
 fn ask_coded(encounter: Encounter, code: u8, limit: i64) {
     match coded_question(code, encounter.speed, limit) {
         CodedQuestion::Asked(question) => ask(encounter, Settings::new(), question),
-        CodedQuestion::Refused(number) => write_refusal(number),
+        CodedQuestion::Refused(number) => write_answer(Answer::Refused(number)),
     }
 }
 
