@@ -8,13 +8,12 @@ ghost use Prim.Native.Nat.{_*_, _≤_};
 ghost use Rattle.path.specs.declared.Side.the-variants.{Lower, Upper};
 ghost use Rattle.path.specs.Letters.{u, e};
 ghost use Rattle.path.specs.Paths.{delayHeight, u-d, upperTarget};
-ghost use Rattle.path.specs.Conflict.{notBeyond, inConflict};
+ghost use Rattle.path.specs.Conflict.{notBeyond};
 ghost use Rattle.path.specs.Sizes.{Sizes, Sized, InReach};
 ghost use Rattle.conflict.specs.Divided.{delayNotBeyond, ruleOf, ruleNotBeyond, missing, arcNotBeyond, straightNotBeyond};
 ghost use Rattle.conflict.specs.RuleSizes.{RuleSizes, mostMissing, mostBend};
 use path::SensedQuestion;
 use path::Side;
-use window::in_window;
 use window::positive_part;
 
 // The speed u_d at the delay's end.
@@ -212,16 +211,4 @@ pub fn not_beyond(side: Side, s: SensedQuestion, n: u64, m: u64) -> bool
         Side::Lower => lower_not_beyond(s, n, m),
         Side::Upper => upper_not_beyond(s, n, m),
     }
-}
-
-// Is n/m in conflict on a side?
-pub fn in_conflict(side: Side, s: SensedQuestion, n: u64, m: u64) -> bool
-    requires { ⌜ Sized side s ⌝ }
-    requires { ⌜ InReach Lower n m ⌝ }
-    ensures { λ r. ⌜ r ≡ inConflict side s n m ⌝ }
-{
-    if in_window(s, n, m) {
-        return not_beyond(side, s, n, m);
-    }
-    false
 }

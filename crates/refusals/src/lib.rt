@@ -78,12 +78,13 @@ fn targets_ordered(question: Question) -> bool
 fn advice_within(question: Question) -> bool
     ensures { λ r. ⌜ r ≡ adviceWithin question ⌝ }
 {
-    let lower = lower_within(question);
-    if two_sided(question) {
-        return lower
-            & (upper_ranges(question) & (strengths_ordered(question) & targets_ordered(question)));
+    if !lower_within(question) {
+        return false;
     }
-    lower & upper_zero(question)
+    if two_sided(question) {
+        return upper_ranges(question) & (strengths_ordered(question) & targets_ordered(question));
+    }
+    upper_zero(question)
 }
 
 fn delay_within(question: Question) -> bool
@@ -108,7 +109,13 @@ fn limit_allowed(question: Question) -> bool
 fn times_within(question: Question) -> bool
     ensures { λ r. ⌜ r ≡ timesWithin question ⌝ }
 {
-    (delay_within(question) & (!two_sided(question) | no_delay(question))) & limit_allowed(question)
+    if !delay_within(question) {
+        return false;
+    }
+    if !limit_allowed(question) {
+        return false;
+    }
+    !two_sided(question) | no_delay(question)
 }
 
 // Refusals 1 to 6 in rising order.

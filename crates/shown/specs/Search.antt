@@ -1,14 +1,22 @@
--- What the steps of the code know and give: which instants have been tried without a conflict, and the first whole second by its height alone.
+-- What the steps of the code know and give: which instants have been tried without a conflict, where the path is lowest, and the first whole second by
+-- its height alone.
 use mathlib.Core.Path.{_≡_}
-use mathlib.Core.Bool.{true, false}
+use mathlib.Core.Bool.{Bool, true, false, cond}
+use Rattle.instant.specs.declared.Instant.{Instant}
 use Rattle.instant.specs.declared.Moment.{Moment}
+use Rattle.instant.specs.declared.Moment.the-variants.{At, Never}
+use Rattle.instant.specs.Order.{noLater}
 use Rattle.path.specs.declared.SensedQuestion.{SensedQuestion}
 use Rattle.path.specs.declared.Side.{Side}
 use Rattle.path.specs.declared.Side.the-variants.{Lower, Upper}
-use Rattle.path.specs.Letters.{d}
+use Rattle.path.specs.Letters.{q, a, d}
+use Rattle.path.specs.Paths.{u-d}
 use Rattle.path.specs.Window.{inWindow, windowStart}
 use Rattle.path.specs.Conflict.{notBeyond, inConflict}
+use Rattle.path.specs.Instants.{turningInstant}
 use Rattle.path.specs.Sizes.{searchStart}
+use Rattle.shown.specs.declared.LowestPoint.{LowestPoint}
+use Rattle.shown.specs.declared.LowestPoint.the-variants.{Passed, Inside, Beyond}
 use Rattle.shown.specs.TimeShown.{approaches, firstSecond, secondsTried}
 
 -- the window holds its start, and so has a time
@@ -23,6 +31,19 @@ StartTried side s = inConflict side s (windowStart s .n) (windowStart s .m) ≡ 
 abbrev pub Tried : Side → SensedQuestion → Type 0
 Tried Lower s = StartTried Lower s × (inConflict Lower s (d s) 1 ≡ false)
 Tried Upper s = StartTried Upper s
+
+-- an instant of the window, shown where the path is not beyond the intruder
+abbrev pub shownAt : Instant → Bool → Moment
+shownAt t reached = cond reached (At t) Never
+
+-- Where the path's lowest point after the delay lies, by its turning instant: "d + max(0, −u_d)/a if q ≥ 0"
+abbrev pub lowestBy : SensedQuestion → Moment → LowestPoint
+lowestBy s Never = Beyond
+lowestBy s (At t) = cond (noLater t (windowStart s)) Passed (cond (inWindow s (t .n) (t .m)) (Inside t) Beyond)
+
+unfoldable pub lowestPoint : SensedQuestion → LowestPoint
+unfolding inWindow
+lowestPoint s = lowestBy s (turningInstant (q s) (a s) (d s) (u-d s))
 
 -- a search may begin: the path goes towards the intruder for ever, and is beyond it at 0 and where the search starts
 pub record Searchable (side : Side) (s : SensedQuestion) : Type 0 where

@@ -1,17 +1,17 @@
 // The time shown on a side: the first of the rule's instants with a conflict, or, where the window has no end, the first whole second with one.
 ghost use mathlib.Core.Path.{_≡_};
-ghost use mathlib.Core.List.{_∷_, _++_};
+ghost use mathlib.Core.List.{_++_};
 ghost use Rattle.instant.specs.declared.Moment.the-variants.{At, Never};
 ghost use Rattle.instant.specs.Order.{_÷_};
-ghost use Rattle.path.specs.declared.Side.the-variants.{Lower};
+ghost use Rattle.path.specs.declared.Side.the-variants.{Lower, Upper};
 ghost use Rattle.path.specs.Letters.{q, a, d};
 ghost use Rattle.path.specs.Paths.{u-d};
-ghost use Rattle.path.specs.Window.{windowStart, windowEnd};
+ghost use Rattle.path.specs.Window.{windowStart, windowEnd, opening};
+ghost use Rattle.path.specs.Conflict.{inConflict};
 ghost use Rattle.path.specs.Instants.{listed, turningInstant, pathInstants};
 ghost use Rattle.path.specs.Sizes.{Sizes, Sized, searchStart, searchEnd};
 ghost use Rattle.shown.specs.TimeShown.{approaches, searched, shownFrom, timeShown};
-ghost use Rattle.shown.specs.Search.{Opened, StartTried, Tried, Searchable, firstReached};
-use conflict::in_conflict;
+ghost use Rattle.shown.specs.Search.{Opened, StartTried, Tried, shownAt, lowestPoint, Searchable, firstReached};
 use conflict::not_beyond;
 use conflict::speed_after_delay;
 use conflict::upper_target;
@@ -23,7 +23,6 @@ use path::Side;
 use window::in_window;
 use window::positive_part;
 use window::window_end;
-use window::window_start;
 
 // The path's lowest point after the delay, if it has one.
 fn turning_instant(s: SensedQuestion) -> Moment
@@ -107,77 +106,132 @@ fn from_search(side: Side, s: SensedQuestion) -> Moment
     Moment::At(Instant { n: n, m: 1 })
 }
 
-// The window's end is in the window where its start is.
-fn from_end(side: Side, s: SensedQuestion) -> Moment
-    requires { ⌜ Sized side s ⌝ }
-    requires { ⌜ Opened s × Tried side s ⌝ }
-    ensures { λ t. ⌜ t ≡ shownFrom side s (listed (windowEnd s)) ⌝ }
+// An instant of the window, where the path is not beyond the intruder there.
+fn shown_at(t: Instant, reached: bool) -> Moment
+    ensures { λ r. ⌜ r ≡ shownAt t reached ⌝ }
 {
-    let end = window_end(s);
-    match end {
-        Moment::Never => from_search(side, s),
-        Moment::At(t) => {
-            if not_beyond(side, s, t.n, t.m) {
-                return end;
-            }
-            Moment::Never
-        }
-    }
-}
-
-// At a turning instant t the path is at its lowest: where it has no conflict there, no later time has one.
-fn from_lowest(s: SensedQuestion, t: Instant) -> Moment
-    requires { ⌜ Sizes s ⌝ }
-    requires { ⌜ Opened s × Tried Lower s ⌝ }
-    requires { ⌜ turningInstant (q s) (a s) (d s) (u-d s) ≡ At t ⌝ }
-    ensures { λ r. ⌜ r ≡ shownFrom Lower s (t ∷ listed (windowEnd s)) ⌝ }
-{
-    if !in_window(s, t.n, t.m) {
-        return from_end(Side::Lower, s);
-    }
-    if not_beyond(Side::Lower, s, t.n, t.m) {
+    if reached {
         return Moment::At(t);
     }
     Moment::Never
 }
 
-// A path that has turned by the window's start rises from there on.
+// The window's end is in the window where its start is. The two sides have a function each, which is called once, so that the compiler inlines it.
+fn lower_end(s: SensedQuestion) -> Moment
+    requires { ⌜ Sizes s ⌝ }
+    requires { ⌜ Opened s × Tried Lower s ⌝ }
+    ensures { λ t. ⌜ t ≡ shownFrom Lower s (listed (windowEnd s)) ⌝ }
+{
+    let end = window_end(s);
+    match end {
+        Moment::Never => from_search(Side::Lower, s),
+        Moment::At(t) => shown_at(t, not_beyond(Side::Lower, s, t.n, t.m)),
+    }
+}
+
+fn upper_end(s: SensedQuestion) -> Moment
+    requires { ⌜ Sized Upper s ⌝ }
+    requires { ⌜ Opened s × Tried Upper s ⌝ }
+    ensures { λ t. ⌜ t ≡ shownFrom Upper s (listed (windowEnd s)) ⌝ }
+{
+    let end = window_end(s);
+    match end {
+        Moment::Never => from_search(Side::Upper, s),
+        Moment::At(t) => shown_at(t, not_beyond(Side::Upper, s, t.n, t.m)),
+    }
+}
+
+// Where the path's lowest point after the delay lies.
+enum LowestPoint {
+    // Not after the window's start: the path rises from there on.
+    Passed,
+    Inside(Instant),
+    // After the window, or nowhere: the path falls throughout it.
+    Beyond,
+}
+
+fn lowest_point(s: SensedQuestion, start: Instant) -> LowestPoint
+    requires { ⌜ Sizes s ⌝ }
+    requires { ⌜ start ≡ windowStart s ⌝ }
+    ensures { λ r. ⌜ r ≡ lowestPoint s ⌝ }
+{
+    let turning = turning_instant(s);
+    match turning {
+        Moment::Never => LowestPoint::Beyond,
+        Moment::At(t) => {
+            if no_later(t, start) {
+                return LowestPoint::Passed;
+            }
+            if in_window(s, t.n, t.m) {
+                return LowestPoint::Inside(t);
+            }
+            LowestPoint::Beyond
+        }
+    }
+}
+
+// After d has been tried. Where the path has no conflict at its lowest, no later time has one.
+fn from_lowest(s: SensedQuestion, start: Instant) -> Moment
+    requires { ⌜ Sizes s ⌝ }
+    requires { ⌜ Opened s × Tried Lower s ⌝ }
+    requires { ⌜ start ≡ windowStart s ⌝ }
+    ensures { λ t. ⌜ t ≡ shownFrom Lower s (listed (turningInstant (q s) (a s) (d s) (u-d s)) ++ listed (windowEnd s)) ⌝ }
+{
+    match lowest_point(s, start) {
+        LowestPoint::Passed => Moment::Never,
+        LowestPoint::Inside(t) => shown_at(t, not_beyond(Side::Lower, s, t.n, t.m)),
+        LowestPoint::Beyond => lower_end(s),
+    }
+}
+
+// Is d in conflict? A window that starts no earlier has nothing to show there.
+fn conflict_at_delay(s: SensedQuestion, start: Instant) -> bool
+    requires { ⌜ Sizes s ⌝ }
+    requires { ⌜ Opened s × StartTried Lower s ⌝ }
+    requires { ⌜ start ≡ windowStart s ⌝ }
+    ensures { λ b. ⌜ b ≡ inConflict Lower s (d s) 1 ⌝ }
+{
+    let d = s.delay;
+    if start.n < d * start.m {
+        if in_window(s, d, 1) {
+            return not_beyond(Side::Lower, s, d, 1);
+        }
+    }
+    false
+}
+
 fn from_delay(s: SensedQuestion, start: Instant) -> Moment
     requires { ⌜ Sizes s ⌝ }
     requires { ⌜ Opened s × StartTried Lower s ⌝ }
     requires { ⌜ start ≡ windowStart s ⌝ }
     ensures { λ t. ⌜ t ≡ shownFrom Lower s (pathInstants Lower s ++ listed (windowEnd s)) ⌝ }
 {
-    let d = s.delay;
-    if in_conflict(Side::Lower, s, d, 1) {
-        return Moment::At(Instant { n: d, m: 1 });
+    if conflict_at_delay(s, start) {
+        return Moment::At(Instant { n: s.delay, m: 1 });
     }
-    let turning = turning_instant(s);
-    match turning {
-        Moment::Never => from_end(Side::Lower, s),
-        Moment::At(t) => {
-            if no_later(t, start) {
-                return Moment::Never;
-            }
-            from_lowest(s, t)
-        }
-    }
+    from_lowest(s, start)
 }
 
-// The time shown on a side. A window that does not hold its start is empty.
-pub fn time_shown(side: Side, s: SensedQuestion) -> Moment
-    requires { ⌜ Sized side s ⌝ }
-    ensures { λ t. ⌜ t ≡ timeShown side s ⌝ }
+// The time shown on the lower side of a window that opens at a start.
+pub fn lower_shown(s: SensedQuestion, start: Instant) -> Moment
+    requires { ⌜ Sizes s ⌝ }
+    requires { ⌜ opening s ≡ At start ⌝ }
+    ensures { λ t. ⌜ t ≡ timeShown Lower s ⌝ }
 {
-    let start = window_start(s);
-    if !in_window(s, start.n, start.m) {
-        return Moment::Never;
-    }
-    if not_beyond(side, s, start.n, start.m) {
+    if not_beyond(Side::Lower, s, start.n, start.m) {
         return Moment::At(start);
     }
-    match side {
-        Side::Lower => from_delay(s, start),
-        Side::Upper => from_end(side, s),
+    from_delay(s, start)
+}
+
+// And on the upper side.
+pub fn upper_shown(s: SensedQuestion, start: Instant) -> Moment
+    requires { ⌜ Sized Upper s ⌝ }
+    requires { ⌜ opening s ≡ At start ⌝ }
+    ensures { λ t. ⌜ t ≡ timeShown Upper s ⌝ }
+{
+    if not_beyond(Side::Upper, s, start.n, start.m) {
+        return Moment::At(start);
     }
+    upper_end(s)
 }
