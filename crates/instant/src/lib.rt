@@ -63,6 +63,35 @@ fn gcd(a: u64, b: u64) -> u64
     x
 }
 
+// The same in 32 bits, where a division costs half as much. A division by 1, most often the last step, is left out.
+fn short_gcd(a: u32, b: u32) -> u32
+    ensures { λ r. ⌜ r ≡ gcd a b ⌝ }
+{
+    let mut x = a;
+    let mut y = b;
+    while y > 1 {
+        let rest = x % y;
+        x = y;
+        y = rest;
+    }
+    if y == 1 {
+        return 1;
+    }
+    x
+}
+
+// In 32 bits where both numbers have no more.
+fn common_divisor(a: u64, b: u64) -> u64
+    ensures { λ r. ⌜ r ≡ gcd a b ⌝ }
+{
+    if a <= 4294967295 {
+        if b <= 4294967295 {
+            return short_gcd(a as u32, b as u32) as u64;
+        }
+    }
+    gcd(a, b)
+}
+
 // How many factors of two a and b share; a 0 counts as 64 of them.
 fn shared_twos(a: u64, b: u64) -> u32
     ensures { λ r. ⌜ r ≡ min (trailingZeros 64 a) (trailingZeros 64 b) ⌝ }
@@ -84,13 +113,21 @@ pub fn lowest_terms(n: u64, m: u64) -> Time
             divisor: 0,
         };
     }
+    let seconds = n / m;
     let left = n % m;
     let twos = shared_twos(left, m);
     let numerator = left >> twos;
     let denominator = m >> twos;
-    let common = gcd(denominator, numerator);
+    let common = common_divisor(denominator, numerator);
+    if common == 1 {
+        return Time {
+            seconds: seconds,
+            remainder: numerator,
+            divisor: denominator,
+        };
+    }
     Time {
-        seconds: n / m,
+        seconds: seconds,
         remainder: numerator / common,
         divisor: denominator / common,
     }
