@@ -1,5 +1,5 @@
 -- The window: "every rational t ≥ 0, up to the limit if one is set, with |r − c × t| ≤ p", and its two ends.
-use mathlib.Core.Bool.{Bool, true, _&&_}
+use mathlib.Core.Bool.{Bool, true, cond, _&&_}
 use Prim.Native.Nat.{ℕ, zero, suc, _*_, _≤_}
 use lib.Dec.{leb}
 use lib.IntN.{ℤ, pos, _+ℤ_, _-ℤ_, _*ℤ_, natAbs}
@@ -56,3 +56,8 @@ endOf (suc c) r p (Upto L) = At (earlier (exitOf (suc c) r p) (L ÷ 1))
 
 abbrev pub windowEnd : SensedQuestion → Moment
 windowEnd s = endOf (c s) (r s) (p s) (s .limit)
+
+-- The window's first time: its start, or none where the window does not hold it, as then it is empty.
+unfoldable pub opening : SensedQuestion → Moment
+unfolding inWindow
+opening s = cond (inWindow s (windowStart s .n) (windowStart s .m)) (At (windowStart s)) Never
