@@ -72,7 +72,8 @@ pub fn in_window(s: SensedQuestion, n: u64, m: u64) -> bool
     if p * m < apart {
         return false;
     }
-    in_time(s.limit, n, m)
+    let limit = s.limit;
+    in_time(limit, n, m)
 }
 
 // The window's first time: none where the intruder has passed, stands still outside the puck's radius, or comes there after the limit.
@@ -93,7 +94,8 @@ pub fn opening(s: SensedQuestion) -> Moment
         }
         return Moment::Never;
     }
-    if in_time(s.limit, ahead, c) {
+    let limit = s.limit;
+    if in_time(limit, ahead, c) {
         return Moment::At(Instant { n: ahead, m: c });
     }
     Moment::Never
