@@ -14,7 +14,7 @@ use Rattle.path.specs.declared.Side.the-variants.{Lower, Upper}
 use Rattle.path.specs.Window.{InTime, inTime, distanceAt, Window, inWindow}
 use Rattle.path.specs.Conflict.{NotBeyond, notBeyond, Conflict, inConflict}
 
-intime-decided : (l : Limit) (n m : ℕ) → T (inTime l n m) ↔ InTime l n m
+pub intime-decided : (l : Limit) (n m : ℕ) → T (inTime l n m) ↔ InTime l n m
 intime-decided Unlimited n m = (λ t. t, λ h. h)
 intime-decided (Upto L) n m = (leb→le n (L * m), le→leb n (L * m))
 

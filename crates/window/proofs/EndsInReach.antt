@@ -1,5 +1,5 @@
 -- The window's ends are small: the comparisons at them fit 64 bits. Assumes nothing.
-use mathlib.Core.Path.{_≡_, refl}
+use mathlib.Core.Path.{_≡_, refl, sym, subst}
 use mathlib.Core.List.{[], _∷_}
 use Prim.Native.Nat.{ℕ, zero, suc, _≤_}
 use native.Mathlib.Omega.{arith}
@@ -20,6 +20,7 @@ use Rattle.path.specs.Window.{startOf, exitOf, endOf, windowStart, windowEnd}
 use Rattle.path.specs.Instants.{Among, listed}
 use Rattle.path.specs.Sizes.{LimitSize, Sizes, InReach}
 use Rattle.path.proofs.Membership.{among-one}
+use Rattle.window.proofs.CodeEnds.{moving-start}
 
 abbrev pub Near : Instant → Type 0
 Near t = InReach Lower (t .n) (t .m)
@@ -64,6 +65,9 @@ module _ (s : SensedQuestion) (z : Sizes s) where
 
   pub windowStart-near : Near (windowStart s)
   windowStart-near = start-near (s .«closing_speed») (s .radius) (s .distance) (z .c-hi) (z .r-hi)
+
+  pub moving-start-near : ¬ (s .«closing_speed» ≡ 0) → Near (max0 (s .distance -ℤ pos (s .radius)) ÷ s .«closing_speed»)
+  moving-start-near h = subst Near (sym (moving-start (s .radius) (s .distance) (s .«closing_speed») h)) windowStart-near
 
   pub windowEnd-near : (t : Instant) → Among t (listed (windowEnd s)) → Near t
   windowEnd-near = end-near (s .«closing_speed») (s .radius) (s .distance) (s .limit) (z .c-hi) (z .p-hi) (z .r-hi) (z .limit-hi)

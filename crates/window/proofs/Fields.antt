@@ -1,4 +1,4 @@
--- The bounds of a question's distance and closing speed and of an instant's numbers, as rules for `search`. Assumes nothing.
+-- The bounds of a question's distance, closing speed and radius and of an instant's numbers, as rules for `search`. Assumes nothing.
 use mathlib.Core.Path.{sym, subst}
 use Prim.Native.Nat.{ℕ, _+_, _≤_}
 use native.Mathlib.Omega.{arith}
@@ -12,7 +12,7 @@ use Rattle.integers.proofs.Machine.{Reading, bounded, bounded-natural, bounded-
 use Rattle.path.specs.declared.SensedQuestion.{SensedQuestion}
 use Rattle.path.specs.declared.Side.{Side}
 use Rattle.path.specs.declared.Side.the-variants.{Lower}
-use Rattle.path.specs.Letters.{r, c}
+use Rattle.path.specs.Letters.{r, c, p}
 use Rattle.path.specs.Window.{distanceAt}
 use Rattle.path.specs.Sizes.{Sizes, farthest, InReach}
 
@@ -32,8 +32,11 @@ module _ (s : SensedQuestion) (z : Sizes s) where
   abbrev pub read-closing-speed : Reading (toZ w64 (s .«closing_speed»))
   read-closing-speed = bounded-word (c s) 150000 (z .c-hi)
 
+  abbrev pub read-radius : Reading (toZ w64 (s .radius))
+  read-radius = bounded-word (p s) 60000 (z .p-hi)
+
 -- `search numbers` finds the reading of a machine term, where the sizes of its question and the reach of its instant are in scope
-pub ruleset numbers = (plain-terms, read-n, read-m, read-distance, read-closing-speed)
+pub ruleset numbers = (plain-terms, read-n, read-m, read-distance, read-closing-speed, read-radius)
 
 -- ---- the size of a term is within the bound of its reading
 number-size : (z : ℤ) (B : ℕ) → max0 z + negPart z ≤ B → natAbs z ≤ B

@@ -1,3 +1,4 @@
 pub mod Fields
 pub mod CodeEnds
 pub mod EndsInReach
+pub mod FirstTime

@@ -6,8 +6,8 @@ ghost use lib.IntN.{natAbs};
 ghost use Rattle.integers.specs.Extremes.{max0};
 ghost use Rattle.path.specs.declared.Side.the-variants.{Lower};
 ghost use Rattle.path.specs.Letters.{r, c, p};
-ghost use Rattle.path.specs.Window.{distanceAt, inWindow, windowStart, exitOf, windowEnd};
-ghost use Rattle.path.specs.Sizes.{Sizes, InReach};
+ghost use Rattle.path.specs.Window.{inTime, distanceAt, inWindow, exitOf, windowEnd, opening};
+ghost use Rattle.path.specs.Sizes.{LimitSize, Sizes, InReach};
 use instant::Instant;
 use instant::Moment;
 use instant::earlier;
@@ -33,6 +33,18 @@ fn absolute(x: i64) -> u64
         return (-x) as u64;
     }
     x as u64
+}
+
+// Is n/m no later than the limit?
+fn in_time(limit: Limit, n: u64, m: u64) -> bool
+    requires { ⌜ LimitSize limit ⌝ }
+    requires { ⌜ InReach Lower n m ⌝ }
+    ensures { λ r. ⌜ r ≡ inTime limit n m ⌝ }
+{
+    match limit {
+        Limit::Unlimited => true,
+        Limit::Upto(last) => n <= last * m,
+    }
 }
 
 // r − c·t, times m.
@@ -61,24 +73,32 @@ pub fn in_window(s: SensedQuestion, n: u64, m: u64) -> bool
         return false;
     }
     let limit = s.limit;
-    match limit {
-        Limit::Unlimited => true,
-        Limit::Upto(last) => n <= last * m,
-    }
+    in_time(limit, n, m)
 }
 
-pub fn window_start(s: SensedQuestion) -> Instant
+// The window's first time: none where the intruder has passed, stands still outside the puck's radius, or comes there after the limit.
+pub fn opening(s: SensedQuestion) -> Moment
     requires { ⌜ Sizes s ⌝ }
-    ensures { λ t. ⌜ t ≡ windowStart s ⌝ }
+    ensures { λ t. ⌜ t ≡ opening s ⌝ }
 {
-    let c = s.closing_speed;
-    if c == 0 {
-        return Instant { n: 0, m: 1 };
-    }
     let r = s.distance;
     let p = s.radius as i64;
-    let n = positive_part(r - p);
-    Instant { n: n, m: c }
+    if r + p < 0 {
+        return Moment::Never;
+    }
+    let ahead = positive_part(r - p);
+    let c = s.closing_speed;
+    if c == 0 {
+        if ahead == 0 {
+            return Moment::At(Instant { n: 0, m: 1 });
+        }
+        return Moment::Never;
+    }
+    let limit = s.limit;
+    if in_time(limit, ahead, c) {
+        return Moment::At(Instant { n: ahead, m: c });
+    }
+    Moment::Never
 }
 
 // Where the intruder leaves the puck's radius, for a closing speed above 0.

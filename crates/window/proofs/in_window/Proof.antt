@@ -1,5 +1,5 @@
 -- `window::in_window` meets its contract: the two tests are those of the definition, and their products fit. Assumes nothing.
-use mathlib.Core.Path.{_≡_, sym, subst, ap, _∙_}
+use mathlib.Core.Path.{_≡_, sym, ap, _∙_}
 use mathlib.Core.Bool.{Bool, false, _&&_}
 use Prim.Native.Nat.{ℕ, _*_, _<_, _≤_}
 use native.Mathlib.Nat.{mul-le-mul}
@@ -9,10 +9,8 @@ use borrow.Author.Tests.{le-leb, lt-leb}
 use lib.IntN.{natAbs}
 use mir.Facts.{toZ-ofZ}
 use Rattle.integers.proofs.Machine.{bounded-absolute, equal-to, read-stored}
-use Rattle.path.specs.declared.Limit.{Limit}
 use Rattle.path.specs.declared.SensedQuestion.{SensedQuestion}
 use Rattle.path.specs.Window.{inTime, distanceAt, inWindow}
-use Rattle.path.specs.Sizes.{LimitSize}
 use Rattle.window.proofs.Fields.{size, distance-size}
 use Rattle.window.proofs.in_window.Statement.{statement}
 use Rattle.window.proofs.in_window.Tie as tie
@@ -46,41 +44,14 @@ mul-if1 c = let (z, h) = c .before .before .pre in record { fits = omega (arith,
 returns : tie.Need-returns
 returns c = let y = c .before .before .before in outside (y .args .s) (y .args .n) (y .args .m) _ (is-apart (c .before)) (c .if1 .taken)
 
-enum-told : tie.Need-enum-told
-enum-told c = search needs
-
-enum-known-limit : tie.Need-enum-known-limit
-enum-known-limit c = search needs
-
-mul-result : tie.Need-mul-result
-mul-result c =
-    let (z, h) = c .before .before .before .before .before .before .pre in
-    let limit = c .before .limit .given in
-    let l : limit .0 .0 ≤ 600 = subst LimitSize (limit .1) (z .limit-hi) in
-    record { fits = omega (arith, mul-le-mul l (h .m-hi)) }
+in-time-requires : tie.Need-in-time-requires
+in-time-requires c κs = search needs
 
 returns-2 : tie.Need-returns-2
 returns-2 c =
-    let x = c .before .before .before in
+    let x = c .before .before in
     let y = x .before .before in
-    sym (ap (λ (limit : Limit). inTime limit (y .args .n) (y .args .m)) (c .enum-told .given .1)) ∙ inside (y .args .s) (y .args .n) (y .args .m) _ (is-apart x) (c .before .before .if1 .left)
-
-returns-3 : tie.Need-returns-3
-returns-3 c =
-    let x = c .before .before .before .before in
-    let y = x .before .before in
-    sym (ap (λ (limit : Limit). inTime limit (y .args .n) (y .args .m)) (c .before .limit .given .1)) ∙ inside (y .args .s) (y .args .n) (y .args .m) _ (is-apart x) (c .before .before .before .if1 .left)
+    c .in-time .ensures ∙ inside (y .args .s) (y .args .n) (y .args .m) _ (is-apart x) (c .before .if1 .left)
 
 pub in-window-spec : {M : Type 1} → statement M
-in-window-spec =
-    tie.close
-    (tie.spec
-    distance-at-requires
-    absolute-requires
-    mul-if1
-    returns
-    enum-told
-    enum-known-limit
-    mul-result
-    returns-2
-    returns-3)
+in-window-spec = tie.close (tie.spec distance-at-requires absolute-requires mul-if1 returns in-time-requires returns-2)
