@@ -29,6 +29,10 @@ twoSidedVerdict Never (At u) = Clear ClearSides.Lower
 twoSidedVerdict (At t) Never = Clear ClearSides.Upper
 twoSidedVerdict (At t) (At u) = Conflicts (timeOf t) (timeOf u)
 
+-- from the times shown on the two sides; a one-sided question has only the lower one
+abbrev pub verdictOf : Question → Moment → Moment → Verdict
+verdictOf z lower upper = cond (twoSided z) (twoSidedVerdict lower upper) (oneSidedVerdict lower)
+
 unfoldable pub verdict : Question → SensedQuestion → Verdict
 unfolding timeShown
-verdict z s = cond (twoSided z) (twoSidedVerdict (timeShown Lower s) (timeShown Upper s)) (oneSidedVerdict (timeShown Lower s))
+verdict z s = verdictOf z (timeShown Lower s) (timeShown Upper s)

@@ -3,18 +3,20 @@ ghost use mathlib.Core.Path.{_≡_};
 ghost use Prim.Native.Nat.{_≤_};
 ghost use lib.IntN.{natAbs};
 ghost use Rattle.advisory.specs.Sign.{sensed};
+ghost use Rattle.instant.specs.declared.Moment.the-variants.{At, Never};
+ghost use Rattle.path.specs.Window.{opening};
 ghost use Rattle.question.specs.declared.Checked.the-variants.{Accepted};
 ghost use Rattle.question.specs.Refusals.{refusal};
 ghost use Rattle.judge.specs.Sensed.{limitOf, sensedMotion, sensedQuestion};
-ghost use Rattle.judge.specs.Verdicts.{oneSidedVerdict, twoSidedVerdict, verdict};
+ghost use Rattle.judge.specs.Verdicts.{oneSidedVerdict, twoSidedVerdict, verdictOf, verdict};
 ghost use Rattle.judge.specs.Answers.{answer, sidesNumber, answerRecord};
 use advisory::Sense;
+use instant::Instant;
 use instant::Moment;
 use instant::Time;
 use instant::lowest_terms;
 use path::Limit;
 use path::SensedQuestion;
-use path::Side;
 use question::Checked;
 use question::Encounter;
 use question::NO_LIMIT;
@@ -23,7 +25,9 @@ use question::Settings;
 use question::sense_of;
 use question::two_sided;
 use refusals::check_question;
-use shown::time_shown;
+use shown::lower_shown;
+use shown::upper_shown;
+use window::opening;
 use window::positive_part;
 
 // The intruder's sensed height w × h, and the sensed speeds u, q and that of the upper target.
@@ -139,18 +143,49 @@ fn two_sided_verdict(lower: Moment, upper: Moment) -> Verdict
     }
 }
 
+// The verdict where the window is empty.
+fn empty_verdict(question: Question) -> Verdict
+    ensures { λ r. ⌜ r ≡ verdictOf question Never Never ⌝ }
+{
+    if two_sided(question) {
+        return Verdict::Clear(ClearSides::Both);
+    }
+    Verdict::Clear(ClearSides::Lower)
+}
+
+// The verdict where the window opens at a start. The upper side makes the sensed question again, so that a one-sided question doesn't pay for the fields of
+// the upper advice.
+fn open_verdict(
+    encounter: Encounter,
+    settings: Settings,
+    question: Question,
+    s: SensedQuestion,
+    start: Instant,
+) -> Verdict
+    requires { ⌜ refusal encounter settings question ≡ Accepted ⌝ }
+    requires { ⌜ s ≡ sensedQuestion encounter settings question ⌝ }
+    requires { ⌜ opening s ≡ At start ⌝ }
+    ensures { λ r. ⌜ r ≡ verdict question (sensedQuestion encounter settings question) ⌝ }
+{
+    let lower = lower_shown(s, start);
+    if two_sided(question) {
+        let again = sensed_question(encounter, settings, question);
+        let upper = upper_shown(again, start);
+        return two_sided_verdict(lower, upper);
+    }
+    one_sided_verdict(lower)
+}
+
 // The verdict on an accepted question.
 fn verdict_on(encounter: Encounter, settings: Settings, question: Question) -> Verdict
     requires { ⌜ refusal encounter settings question ≡ Accepted ⌝ }
     ensures { λ r. ⌜ r ≡ verdict question (sensedQuestion encounter settings question) ⌝ }
 {
     let s = sensed_question(encounter, settings, question);
-    let lower = time_shown(Side::Lower, s);
-    if two_sided(question) {
-        let upper = time_shown(Side::Upper, s);
-        return two_sided_verdict(lower, upper);
+    match opening(s) {
+        Moment::Never => empty_verdict(question),
+        Moment::At(start) => open_verdict(encounter, settings, question, s, start),
     }
-    one_sided_verdict(lower)
 }
 
 // The entry for plain numbers: any 64-bit values.
