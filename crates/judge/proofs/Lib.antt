@@ -1,6 +1,8 @@
 pub mod ExamplesHold
 pub mod AcceptedSizes
 pub mod PlainFields
+pub mod StoredNumbers
+pub mod ResultAnswers
 pub mod AnswerRecords
 pub mod Demand3
 pub mod Mirror

@@ -1,6 +1,7 @@
 pub mod Sensed
 pub mod Verdicts
 pub mod Answers
+pub mod Results
 pub mod Demand3
 pub mod Examples
 pub mod Mirror

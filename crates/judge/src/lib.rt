@@ -2,14 +2,17 @@
 ghost use mathlib.Core.Path.{_≡_};
 ghost use Prim.Native.Nat.{_≤_};
 ghost use lib.IntN.{natAbs};
+ghost use Rattle.instant.specs.Lowest.{noTime};
 ghost use Rattle.advisory.specs.Sign.{sensed};
 ghost use Rattle.instant.specs.declared.Moment.the-variants.{At, Never};
 ghost use Rattle.path.specs.Window.{opening};
 ghost use Rattle.question.specs.declared.Checked.the-variants.{Accepted};
 ghost use Rattle.question.specs.Refusals.{refusal};
+ghost use Rattle.judge.specs.declared.Answer.the-variants.{Refused};
 ghost use Rattle.judge.specs.Sensed.{limitOf, sensedMotion, sensedQuestion};
 ghost use Rattle.judge.specs.Verdicts.{oneSidedVerdict, twoSidedVerdict, verdictOf, verdict};
 ghost use Rattle.judge.specs.Answers.{answer, sidesNumber, answerRecord};
+ghost use Rattle.judge.specs.Results.{withTimes, flatVerdict, flatAnswer, sidesOf, lowerTime, upperTime, answerOf, plainEncounter, plainSettings, plainQuestion};
 use advisory::Sense;
 use instant::Instant;
 use instant::Moment;
@@ -114,7 +117,7 @@ fn sensed_question(encounter: Encounter, settings: Settings, question: Question)
         delay: positive_part(question.delay),
         delay_acceleration: positive_part(settings.delay_acceleration),
         upper_target: motion.upper_target,
-        upper_strength: positive_part(question.upper_strength),
+        upper_strength: question.upper_strength as u64,
         limit: limit_of(question.limit),
     }
 }
@@ -188,16 +191,6 @@ fn verdict_on(encounter: Encounter, settings: Settings, question: Question) -> V
     }
 }
 
-// The entry for plain numbers: any 64-bit values.
-pub fn judge(encounter: Encounter, settings: Settings, question: Question) -> Answer
-    ensures { λ r. ⌜ answerRecord r ≡ answerRecord (answer encounter settings question) ⌝ }
-{
-    match check_question(encounter, settings, question) {
-        Checked::Accepted => Answer::Judged(verdict_on(encounter, settings, question)),
-        Checked::Refused(number) => Answer::Refused(number),
-    }
-}
-
 // "1 lower side clear, 2 upper, 3 both"
 pub fn sides_number(sides: ClearSides) -> u8
     ensures { λ r. ⌜ r ≡ sidesNumber sides ⌝ }
@@ -207,4 +200,220 @@ pub fn sides_number(sides: ClearSides) -> u8
         ClearSides::Upper => 2,
         ClearSides::Both => 3,
     }
+}
+
+// An answer record's kind and numbers; fields that the kind does not use are 0.
+#[repr(C)]
+pub struct JudgeResult {
+    // 65, 66, 67 or 68.
+    pub kind: u64,
+    // The sides of a clear answer, or the refusal's number.
+    pub number: u64,
+    pub lower_seconds: u64,
+    pub lower_remainder: u64,
+    pub lower_divisor: u64,
+    pub upper_seconds: u64,
+    pub upper_remainder: u64,
+    pub upper_divisor: u64,
+}
+
+fn with_times(kind: u64, number: u64, lower: Time, upper: Time) -> JudgeResult
+    ensures { λ r. ⌜ r ≡ withTimes kind number lower upper ⌝ }
+{
+    JudgeResult {
+        kind: kind,
+        number: number,
+        lower_seconds: lower.seconds,
+        lower_remainder: lower.remainder,
+        lower_divisor: lower.divisor,
+        upper_seconds: upper.seconds,
+        upper_remainder: upper.remainder,
+        upper_divisor: upper.divisor,
+    }
+}
+
+// Three zeros, which are no time.
+fn no_time() -> Time
+    ensures { λ r. ⌜ r ≡ noTime ⌝ }
+{
+    Time {
+        seconds: 0,
+        remainder: 0,
+        divisor: 0,
+    }
+}
+
+fn flat_verdict(verdict: Verdict) -> JudgeResult
+    ensures { λ r. ⌜ r ≡ flatVerdict verdict ⌝ }
+{
+    match verdict {
+        Verdict::Clear(sides) => with_times(65, sides_number(sides) as u64, no_time(), no_time()),
+        Verdict::Conflict(t) => with_times(66, 0, t, no_time()),
+        Verdict::Conflicts(t, u) => with_times(67, 0, t, u),
+    }
+}
+
+fn refused(number: u8) -> JudgeResult
+    ensures { λ r. ⌜ r ≡ flatAnswer (Refused number) ⌝ }
+{
+    with_times(68, number as u64, no_time(), no_time())
+}
+
+fn plain_encounter(r: i64, h: i64, c: i64, v: i64, vi: i64) -> Encounter
+    ensures { λ x. ⌜ x ≡ plainEncounter r h c v vi ⌝ }
+{
+    Encounter {
+        distance: r,
+        height: h,
+        closing_speed: c,
+        speed: v,
+        intruder_speed: vi,
+    }
+}
+
+fn plain_settings(p: i64, k: i64, e: i64) -> Settings
+    ensures { λ y. ⌜ y ≡ plainSettings p k e ⌝ }
+{
+    Settings {
+        radius: p,
+        half_height: k,
+        delay_acceleration: e,
+    }
+}
+
+fn plain_question(
+    sides: i64,
+    sense: i64,
+    target: i64,
+    upper_target: i64,
+    strength: i64,
+    upper_strength: i64,
+    delay: i64,
+    limit: i64,
+) -> Question
+    ensures { λ z. ⌜ z ≡ plainQuestion sides sense target «upper_target» strength «upper_strength» delay limit ⌝ }
+{
+    Question {
+        sides: sides,
+        sense: sense,
+        target: target,
+        upper_target: upper_target,
+        strength: strength,
+        upper_strength: upper_strength,
+        delay: delay,
+        limit: limit,
+    }
+}
+
+// The judge of sixteen numbers, any 64-bit values.
+pub fn judge_numbers(
+    r: i64,
+    h: i64,
+    c: i64,
+    v: i64,
+    vi: i64,
+    p: i64,
+    k: i64,
+    e: i64,
+    sides: i64,
+    sense: i64,
+    target: i64,
+    upper_target: i64,
+    strength: i64,
+    upper_strength: i64,
+    delay: i64,
+    limit: i64,
+) -> JudgeResult
+    ensures { λ out. ⌜ out ≡ flatAnswer (answer (plainEncounter r h c v vi) (plainSettings p k e) (plainQuestion sides sense target «upper_target» strength «upper_strength» delay limit)) ⌝ }
+{
+    let encounter = plain_encounter(r, h, c, v, vi);
+    let settings = plain_settings(p, k, e);
+    let question = plain_question(
+        sides,
+        sense,
+        target,
+        upper_target,
+        strength,
+        upper_strength,
+        delay,
+        limit,
+    );
+    match check_question(encounter, settings, question) {
+        Checked::Accepted => flat_verdict(verdict_on(encounter, settings, question)),
+        Checked::Refused(number) => refused(number),
+    }
+}
+
+fn sides_of(number: u64) -> ClearSides
+    ensures { λ r. ⌜ r ≡ sidesOf number ⌝ }
+{
+    if number == 1 {
+        return ClearSides::Lower;
+    }
+    if number == 2 {
+        return ClearSides::Upper;
+    }
+    ClearSides::Both
+}
+
+fn lower_time(result: JudgeResult) -> Time
+    ensures { λ r. ⌜ r ≡ lowerTime result ⌝ }
+{
+    Time {
+        seconds: result.lower_seconds,
+        remainder: result.lower_remainder,
+        divisor: result.lower_divisor,
+    }
+}
+
+fn upper_time(result: JudgeResult) -> Time
+    ensures { λ r. ⌜ r ≡ upperTime result ⌝ }
+{
+    Time {
+        seconds: result.upper_seconds,
+        remainder: result.upper_remainder,
+        divisor: result.upper_divisor,
+    }
+}
+
+// The answer whose numbers a result has.
+fn answer_of(result: JudgeResult) -> Answer
+    requires { ⌜ result .number ≤ 255 ⌝ }
+    ensures { λ r. ⌜ r ≡ answerOf result ⌝ }
+{
+    if result.kind == 65 {
+        return Answer::Judged(Verdict::Clear(sides_of(result.number)));
+    }
+    if result.kind == 66 {
+        return Answer::Judged(Verdict::Conflict(lower_time(result)));
+    }
+    if result.kind == 67 {
+        return Answer::Judged(Verdict::Conflicts(lower_time(result), upper_time(result)));
+    }
+    Answer::Refused(result.number as u8)
+}
+
+// The entry for plain numbers in structs: any 64-bit values.
+pub fn judge(encounter: Encounter, settings: Settings, question: Question) -> Answer
+    ensures { λ r. ⌜ answerRecord r ≡ answerRecord (answer encounter settings question) ⌝ }
+{
+    let result = judge_numbers(
+        encounter.distance,
+        encounter.height,
+        encounter.closing_speed,
+        encounter.speed,
+        encounter.intruder_speed,
+        settings.radius,
+        settings.half_height,
+        settings.delay_acceleration,
+        question.sides,
+        question.sense,
+        question.target,
+        question.upper_target,
+        question.strength,
+        question.upper_strength,
+        question.delay,
+        question.limit,
+    );
+    answer_of(result)
 }

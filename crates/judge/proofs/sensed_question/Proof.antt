@@ -1,18 +1,24 @@
--- `judge::sensed_question` meets its contract: each field is stored exactly, and each part is the definition's.
+-- `judge::sensed_question` meets its contract: each field is stored exactly, and each part is the definition's. The upper strength is not negative, so
+-- its cast keeps it.
 use mathlib.Core.Path.{_≡_, refl, sym, ap, _∙_, subst}
 use Prim.Native.Nat.{ℕ}
-use lib.IntN.{ℤ}
+use lib.IntN.{ℤ, pos, natAbs}
+use lib.Signed.{_≤ℤ_, pos-natAbs, yes-nonNeg}
+use mir.Syntax.{w64}
+use mir.Val.{SFits}
+use mir.Facts.{toZ-ofZ, fits-natAbs}
 use borrow.Author.Needs.{needs}
 use Rattle.integers.specs.Extremes.{max0}
+use Rattle.integers.proofs.Certificates.{nat≡}
+use Rattle.integers.proofs.Laws.{max0-same}
 use Rattle.path.specs.declared.Limit.{Limit}
 use Rattle.path.specs.declared.SensedQuestion.{SensedQuestion}
 use Rattle.judge.specs.declared.Motion.{Motion}
 use Rattle.judge.specs.Sensed.{limitOf, sensedMotion, sensedQuestion}
+use Rattle.question.proofs.WithinLimits.{upper-between}
 use Rattle.judge.proofs.PlainFields.{exact-fields, ExactMotion, exact-motion}
 use Rattle.judge.proofs.sensed_question.Statement.{statement}
 use Rattle.judge.proofs.sensed_question.Tie as tie
-use Rattle.judge.proofs.sensed_question.Reads as reads
-use Rattle.judge.proofs.sensed_question.Lts as lts
 
 sensed-motion-requires : tie.Need-sensed-motion-requires
 sensed-motion-requires c κs = c .pre
@@ -35,8 +41,14 @@ positive-part-requires-5 c κs = search needs
 positive-part-requires-6 : tie.Need-positive-part-requires-6
 positive-part-requires-6 c κs = search needs
 
-positive-part-requires-7 : tie.Need-positive-part-requires-7
-positive-part-requires-7 c κs = search needs
+upper-natural : (z : tie.Start) → pos 0 ≤ℤ z .args .question .«upper_strength»
+upper-natural z = upper-between (z .args .encounter) (z .args .settings) (z .args .question) (z .pre) .1 .from
+
+cast-t11 : tie.Need-cast-t11
+cast-t11 c =
+    let z = c .before .before .before .before .before .before .before .before .before .before .before .before .before .before .before in
+    let f : SFits w64 (z .args .question .«upper_strength») = record { sfits = c .struct-told7 .given .1 .1 .1 .1 .1 .0 .1 } in
+    rw (toZ-ofZ f) (yes-nonNeg (upper-natural z), fits-natAbs tt f)
 
 limit-of-requires : tie.Need-limit-of-requires
 limit-of-requires c κs = search needs
@@ -51,8 +63,7 @@ returns : tie.Need-returns
 unfolding sensedQuestion
 returns c =
     let l = c .before .before in
-    let p₇ = l .before .before in
-    let p₆ = p₇ .before .before in
+    let p₆ = l .before .before .before .before in
     let p₅ = p₆ .before .before in
     let p₄ = p₅ .before .before in
     let p₃ = p₄ .before .before in
@@ -75,7 +86,7 @@ returns c =
     (p₅ .positive-part5 .ensures ∙ ap max0 (f .delay))
     (p₆ .positive-part6 .ensures ∙ ap max0 (f .acceleration))
     (g .upper ∙ ap (λ (n : Motion). n .«upper_target») e)
-    (p₇ .positive-part7 .ensures ∙ ap max0 (f .upper))
+    (ap natAbs (f .upper) ∙ nat≡ (pos-natAbs (z .args .question .«upper_strength») (yes-nonNeg (upper-natural z)) ∙ sym (max0-same (z .args .question .«upper_strength») (upper-natural z))))
     (l .limit-of .ensures ∙ ap limitOf (f .limit))
 
 pub sensed-question-spec : {M : Type 1} → statement M
@@ -89,6 +100,6 @@ sensed-question-spec =
     positive-part-requires-4
     positive-part-requires-5
     positive-part-requires-6
-    positive-part-requires-7
+    cast-t11
     limit-of-requires
     returns)

@@ -1,13 +1,12 @@
--- `binding::flat_verdict` meets its contract: by cases on the verdict.
+-- `judge::flat_verdict` meets its contract: by cases on the verdict.
 use mathlib.Core.Path.{sym, ap, ap₂, _∙_}
 use Prim.Native.Nat.{ℕ}
 use borrow.Author.Needs.{needs}
 use Rattle.instant.specs.declared.Time.{Time}
 use Rattle.instant.specs.Lowest.{noTime}
-use Rattle.judge.specs.Answers.{sidesNumber}
-use Rattle.binding.specs.Flat.{withTimes, flatVerdict}
-use Rattle.binding.proofs.flat_verdict.Statement.{statement}
-use Rattle.binding.proofs.flat_verdict.Tie as tie
+use Rattle.judge.specs.Results.{withTimes, flatVerdict}
+use Rattle.judge.proofs.flat_verdict.Statement.{statement}
+use Rattle.judge.proofs.flat_verdict.Tie as tie
 
 enum-known-verdict : tie.Need-enum-known-verdict
 enum-known-verdict c = search needs
