@@ -25,11 +25,12 @@ answer-of-flat (Answer.Judged (Conflict t)) = refl
 answer-of-flat (Answer.Judged (Conflicts t u)) = refl
 answer-of-flat (Answer.Refused n) = refl
 
+-- the number of a refusal fits a byte
 abbrev SmallRefusal : Checked → Type 0
 SmallRefusal Checked.Accepted = Unit {0}
 SmallRefusal (Checked.Refused n) = n ≤ 255
 
--- the next of the tests
+-- one test before the others
 next : (b : Bool) (n : ℕ) (k : Checked) → n ≤ 255 → SmallRefusal k → SmallRefusal (cond b k (Checked.Refused n))
 next true n k l s = s
 next false n k l s = l

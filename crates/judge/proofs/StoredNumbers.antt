@@ -15,6 +15,7 @@ use Rattle.judge.specs.Results.{flatAnswer, plainEncounter, plainSetting
 abbrev stored : ℤ → ℤ
 stored n = toZ w64 (ofZ w64 n)
 
+-- each struct of stored numbers
 module _ {r h c v vi : ℤ} (fr : SFits w64 r) (fh : SFits w64 h) (fc : SFits w64 c) (fv : SFits w64 v) (fvi : SFits w64 vi) where
   pub stored-encounter : {x : Encounter} → x ≡ plainEncounter (stored r) (stored h) (stored c) (stored v) (stored vi) → x ≡ plainEncounter r h c v vi
   stored-encounter e = rw (toZ-ofZ fr, toZ-ofZ fh, toZ-ofZ fc, toZ-ofZ fv, toZ-ofZ fvi) at e
@@ -30,6 +31,7 @@ module _ {sides sense q q′ a b d l : ℤ} (fsides : SFits w64 sides) (fsense :
 pub same-result : {out : JudgeResult} {x x′ : Encounter} {y y′ : Settings} {z z′ : Question} → out ≡ flatAnswer (answer x y z) → x ≡ x′ → y ≡ y′ → z ≡ z′ → out ≡ flatAnswer (answer x′ y′ z′)
 same-result {x′ = x′} {y} {z = z} o e f g = o ∙ ap (λ (u : Encounter). flatAnswer (answer u y z)) e ∙ ap₂ (λ (v : Settings) (w : Question). flatAnswer (answer x′ v w)) f g
 
+-- the result on sixteen stored numbers
 module _
     {r h c v vi p k e sides sense q q′ a b d l : ℤ}
     (fr : SFits w64 r) (fh : SFits w64 h) (fc : SFits w64 c) (fv : SFits w64 v) (fvi : SFits w64 vi)
