@@ -23,12 +23,12 @@ use Rattle.question.specs.declared.Settings.{Settings}
 use Rattle.question.specs.declared.Question.{Question}
 use Rattle.question.specs.declared.Checked.{Checked}
 use Rattle.question.specs.declared.Checked.the-variants.{Accepted, Refused}
-use Rattle.judge.specs.declared.Verdict.{Verdict}
+use Rattle.verdict.specs.declared.Verdict.{Verdict}
 use Rattle.question.specs.Limits.{distanceWithin, heightWithin, closingSpeedWithin, speedWithin, strengthWithin, delayWithin}
 use Rattle.question.specs.Refusals.{isNumber, encounterWithin, puckWithin, delayAccelerationWithin, sidesKnown, adviceWithin, timesWithin, limitAllowed, Check, check, firstRefusal, refusal}
-use Rattle.judge.specs.Sensed.{sensedQuestion}
+use Rattle.sensed.specs.Sensed.{sensedQuestion}
 use Rattle.coded.specs.Coded.{senseNumber, instructed, asked, codedQuestion}
-use Rattle.judge.specs.Verdicts.{verdict}
+use Rattle.verdict.specs.Verdicts.{verdict}
 use Rattle.judge.specs.Answers.{checkedAnswer, answer}
 use Rattle.integers.proofs.Branches.{picks-yes, picks-no}
 use Rattle.question.proofs.WithinLimits.{Between, between}

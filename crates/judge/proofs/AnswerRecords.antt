@@ -5,8 +5,8 @@ use mathlib.Core.List.{List, [], _∷_}
 use Prim.Native.Nat.{ℕ, zero, suc}
 use native.Mathlib.Omega.{arith}
 use Rattle.instant.specs.declared.Time.{Time}
-use Rattle.judge.specs.declared.ClearSides.{ClearSides}
-use Rattle.judge.specs.declared.Verdict.the-variants.{Clear, Conflict, Conflicts}
+use Rattle.verdict.specs.declared.ClearSides.{ClearSides}
+use Rattle.verdict.specs.declared.Verdict.the-variants.{Clear, Conflict, Conflicts}
 use Rattle.judge.specs.declared.Answer.{Answer}
 use Rattle.judge.specs.Answers.{AnswerRecord, sidesNumber, answerRecord}
 

@@ -19,17 +19,17 @@ use Rattle.question.specs.declared.Encounter.{Encounter}
 use Rattle.question.specs.declared.Settings.{Settings}
 use Rattle.question.specs.declared.Question.{Question}
 use Rattle.question.specs.declared.Checked.{Checked}
-use Rattle.judge.specs.declared.ClearSides.{ClearSides}
-use Rattle.judge.specs.declared.Verdict.{Verdict}
-use Rattle.judge.specs.declared.Verdict.the-variants.{Clear, Conflict, Conflicts}
+use Rattle.verdict.specs.declared.ClearSides.{ClearSides}
+use Rattle.verdict.specs.declared.Verdict.{Verdict}
+use Rattle.verdict.specs.declared.Verdict.the-variants.{Clear, Conflict, Conflicts}
 use Rattle.judge.specs.declared.Answer.{Answer}
 use Rattle.question.specs.Refusals.{twoSided, refusal}
-use Rattle.judge.specs.Sensed.{sensedQuestion}
-use Rattle.judge.specs.Verdicts.{timeOf, oneSidedVerdict, twoSidedVerdict, verdict}
+use Rattle.sensed.specs.Sensed.{sensedQuestion}
+use Rattle.verdict.specs.Verdicts.{timeOf, oneSidedVerdict, twoSidedVerdict, verdict}
 use Rattle.judge.specs.Answers.{checkedAnswer, answer, answerRecord}
 use Rattle.judge.specs.Demand3.{ShownTime, RightOneSided, RightTwoSided, RightVerdict, RightAnswer, SaysConflict}
 use Rattle.judge.proofs.AnswerRecords.{record-determines}
-use Rattle.judge.proofs.AcceptedSizes.{accepted-sizes, accepted-upper-sizes}
+use Rattle.sensed.proofs.AcceptedSizes.{accepted-sizes, accepted-upper-sizes}
 
 -- ---- one side: no conflict time, or a time shown
 abbrev RightSide : Side → SensedQuestion → Moment → Type 0

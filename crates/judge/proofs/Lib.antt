@@ -1,6 +1,4 @@
 pub mod ExamplesHold
-pub mod AcceptedSizes
-pub mod PlainFields
 pub mod StoredNumbers
 pub mod ResultAnswers
 pub mod AnswerRecords

@@ -23,8 +23,8 @@ use Rattle.question.specs.declared.Checked.{Checked}
 use Rattle.judge.specs.declared.Answer.{Answer}
 use Rattle.question.specs.Limits.{within, distanceWithin, heightWithin, closingSpeedWithin, speedWithin, strengthWithin}
 use Rattle.question.specs.Refusals.{isNumber, senseOf, noLimit, twoSided, lowerWithin, upperZero, upperRanges, strengthsOrdered, targetsOrdered, upperWithin, Check, firstRefusal, plainChecks, refusal}
-use Rattle.judge.specs.Sensed.{sensedQuestion}
-use Rattle.judge.specs.Verdicts.{verdict}
+use Rattle.sensed.specs.Sensed.{sensedQuestion}
+use Rattle.verdict.specs.Verdicts.{verdict}
 use Rattle.judge.specs.Answers.{answer}
 use Rattle.question.specs.StartingSettings.{startingSettings}
 use Rattle.judge.specs.Examples.{meet, descend, answerTo}

@@ -6,13 +6,13 @@ use Rattle.question.specs.declared.Encounter.{Encounter}
 use Rattle.question.specs.declared.Settings.{Settings}
 use Rattle.question.specs.declared.Question.{Question}
 use Rattle.question.specs.declared.Checked.{Checked}
-use Rattle.judge.specs.declared.ClearSides.{ClearSides}
-use Rattle.judge.specs.declared.Verdict.{Verdict}
-use Rattle.judge.specs.declared.Verdict.the-variants.{Clear, Conflict, Conflicts}
+use Rattle.verdict.specs.declared.ClearSides.{ClearSides}
+use Rattle.verdict.specs.declared.Verdict.{Verdict}
+use Rattle.verdict.specs.declared.Verdict.the-variants.{Clear, Conflict, Conflicts}
 use Rattle.judge.specs.declared.Answer.{Answer}
 use Rattle.question.specs.Refusals.{refusal}
-use Rattle.judge.specs.Sensed.{sensedQuestion}
-use Rattle.judge.specs.Verdicts.{verdict}
+use Rattle.sensed.specs.Sensed.{sensedQuestion}
+use Rattle.verdict.specs.Verdicts.{verdict}
 
 -- refused, or else judged
 abbrev pub checkedAnswer : Checked → Verdict → Answer

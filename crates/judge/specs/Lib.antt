@@ -1,5 +1,3 @@
-pub mod Sensed
-pub mod Verdicts
 pub mod Answers
 pub mod Results
 pub mod Demand3

@@ -8,9 +8,9 @@ use Rattle.instant.specs.Lowest.{noTime}
 use Rattle.question.specs.declared.Encounter.{Encounter}
 use Rattle.question.specs.declared.Settings.{Settings}
 use Rattle.question.specs.declared.Question.{Question}
-use Rattle.judge.specs.declared.ClearSides.{ClearSides}
-use Rattle.judge.specs.declared.Verdict.{Verdict}
-use Rattle.judge.specs.declared.Verdict.the-variants.{Clear, Conflict, Conflicts}
+use Rattle.verdict.specs.declared.ClearSides.{ClearSides}
+use Rattle.verdict.specs.declared.Verdict.{Verdict}
+use Rattle.verdict.specs.declared.Verdict.the-variants.{Clear, Conflict, Conflicts}
 use Rattle.judge.specs.declared.Answer.{Answer}
 use Rattle.judge.specs.declared.JudgeResult.{JudgeResult}
 use Rattle.judge.specs.Answers.{sidesNumber}

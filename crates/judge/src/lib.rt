@@ -1,194 +1,23 @@
-// The judge of plain numbers. `specs/` says what each answer is.
+// The judge of plain numbers: answers, and their numbers as one struct. `specs/` says what each answer is.
 ghost use mathlib.Core.Path.{_≡_};
 ghost use Prim.Native.Nat.{_≤_};
-ghost use lib.IntN.{natAbs};
 ghost use Rattle.instant.specs.Lowest.{noTime};
-ghost use Rattle.advisory.specs.Sign.{sensed};
-ghost use Rattle.instant.specs.declared.Moment.the-variants.{At, Never};
-ghost use Rattle.path.specs.Window.{opening};
-ghost use Rattle.question.specs.declared.Checked.the-variants.{Accepted};
-ghost use Rattle.question.specs.Refusals.{refusal};
-ghost use Rattle.judge.specs.declared.Answer.the-variants.{Refused};
-ghost use Rattle.judge.specs.Sensed.{limitOf, sensedMotion, sensedQuestion};
-ghost use Rattle.judge.specs.Verdicts.{oneSidedVerdict, twoSidedVerdict, verdictOf, verdict};
+ghost use Rattle.judge.specs.declared.Answer.the-variants.{Judged, Refused};
 ghost use Rattle.judge.specs.Answers.{answer, sidesNumber, answerRecord};
 ghost use Rattle.judge.specs.Results.{withTimes, flatVerdict, flatAnswer, sidesOf, lowerTime, upperTime, answerOf, plainEncounter, plainSettings, plainQuestion};
-use advisory::Sense;
-use instant::Instant;
-use instant::Moment;
 use instant::Time;
-use instant::lowest_terms;
-use path::Limit;
-use path::SensedQuestion;
 use question::Checked;
 use question::Encounter;
-use question::NO_LIMIT;
 use question::Question;
 use question::Settings;
-use question::sense_of;
-use question::two_sided;
 use refusals::check_question;
-use shown::lower_shown;
-use shown::upper_shown;
-use window::opening;
-use window::positive_part;
-
-// The intruder's sensed height w × h, and the sensed speeds u, q and that of the upper target.
-struct Motion {
-    level: i64,
-    speed: i64,
-    target: i64,
-    upper_target: i64,
-}
-
-// The sides without a conflict time.
-pub enum ClearSides {
-    Lower,
-    Upper,
-    Both,
-}
-
-// Clear, or a conflict that carries its time; a two-sided conflict carries two, the lower one first.
-pub enum Verdict {
-    Clear(ClearSides),
-    Conflict(Time),
-    Conflicts(Time, Time),
-}
+use verdict::ClearSides;
+use verdict::Verdict;
+use verdict::verdict_on;
 
 pub enum Answer {
     Judged(Verdict),
     Refused(u8),
-}
-
-// w × x.
-fn in_sense(sense: Sense, x: i64) -> i64
-    requires { ⌜ natAbs x ≤ 1000000 ⌝ }
-    ensures { λ r. ⌜ r ≡ sensed sense x ⌝ }
-{
-    match sense {
-        Sense::Climb => x,
-        Sense::Descend => -x,
-    }
-}
-
-fn limit_of(limit: i64) -> Limit
-    ensures { λ r. ⌜ r ≡ limitOf limit ⌝ }
-{
-    if NO_LIMIT <= limit {
-        return Limit::Unlimited;
-    }
-    Limit::Upto(positive_part(limit))
-}
-
-// The intruder's height and the speeds of an accepted question, in the sense and relative to the intruder's speed.
-fn sensed_motion(encounter: Encounter, settings: Settings, question: Question) -> Motion
-    requires { ⌜ refusal encounter settings question ≡ Accepted ⌝ }
-    ensures { λ r. ⌜ r ≡ sensedMotion encounter question ⌝ }
-{
-    let height = encounter.height;
-    let own = encounter.speed;
-    let intruder = encounter.intruder_speed;
-    let target = question.target;
-    let upper = question.upper_target;
-    let sense = sense_of(question);
-    Motion {
-        level: in_sense(sense, height),
-        speed: in_sense(sense, own - intruder),
-        target: in_sense(sense, target - intruder),
-        upper_target: in_sense(sense, upper - intruder),
-    }
-}
-
-// An accepted question, with heights and speeds in its sense.
-fn sensed_question(encounter: Encounter, settings: Settings, question: Question) -> SensedQuestion
-    requires { ⌜ refusal encounter settings question ≡ Accepted ⌝ }
-    ensures { λ r. ⌜ r ≡ sensedQuestion encounter settings question ⌝ }
-{
-    let motion = sensed_motion(encounter, settings, question);
-    SensedQuestion {
-        distance: encounter.distance,
-        closing_speed: positive_part(encounter.closing_speed),
-        radius: positive_part(settings.radius),
-        half_height: positive_part(settings.half_height),
-        level: motion.level,
-        speed: motion.speed,
-        target: motion.target,
-        strength: positive_part(question.strength),
-        delay: positive_part(question.delay),
-        delay_acceleration: positive_part(settings.delay_acceleration),
-        upper_target: motion.upper_target,
-        upper_strength: question.upper_strength as u64,
-        limit: limit_of(question.limit),
-    }
-}
-
-fn one_sided_verdict(lower: Moment) -> Verdict
-    ensures { λ r. ⌜ r ≡ oneSidedVerdict lower ⌝ }
-{
-    match lower {
-        Moment::At(t) => Verdict::Conflict(lowest_terms(t.n, t.m)),
-        Moment::Never => Verdict::Clear(ClearSides::Lower),
-    }
-}
-
-fn two_sided_verdict(lower: Moment, upper: Moment) -> Verdict
-    ensures { λ r. ⌜ r ≡ twoSidedVerdict lower upper ⌝ }
-{
-    match lower {
-        Moment::At(t) => match upper {
-            Moment::At(u) => Verdict::Conflicts(lowest_terms(t.n, t.m), lowest_terms(u.n, u.m)),
-            Moment::Never => Verdict::Clear(ClearSides::Upper),
-        },
-        Moment::Never => match upper {
-            Moment::At(_) => Verdict::Clear(ClearSides::Lower),
-            Moment::Never => Verdict::Clear(ClearSides::Both),
-        },
-    }
-}
-
-// The verdict where the window is empty.
-fn empty_verdict(question: Question) -> Verdict
-    ensures { λ r. ⌜ r ≡ verdictOf question Never Never ⌝ }
-{
-    if two_sided(question) {
-        return Verdict::Clear(ClearSides::Both);
-    }
-    Verdict::Clear(ClearSides::Lower)
-}
-
-// The verdict where the window opens at a start. The upper side makes the sensed question again, so that a one-sided question doesn't pay for the fields of
-// the upper advice.
-fn open_verdict(
-    encounter: Encounter,
-    settings: Settings,
-    question: Question,
-    s: SensedQuestion,
-    start: Instant,
-) -> Verdict
-    requires { ⌜ refusal encounter settings question ≡ Accepted ⌝ }
-    requires { ⌜ s ≡ sensedQuestion encounter settings question ⌝ }
-    requires { ⌜ opening s ≡ At start ⌝ }
-    ensures { λ r. ⌜ r ≡ verdict question (sensedQuestion encounter settings question) ⌝ }
-{
-    let lower = lower_shown(s, start);
-    if two_sided(question) {
-        let again = sensed_question(encounter, settings, question);
-        let upper = upper_shown(again, start);
-        return two_sided_verdict(lower, upper);
-    }
-    one_sided_verdict(lower)
-}
-
-// The verdict on an accepted question.
-fn verdict_on(encounter: Encounter, settings: Settings, question: Question) -> Verdict
-    requires { ⌜ refusal encounter settings question ≡ Accepted ⌝ }
-    ensures { λ r. ⌜ r ≡ verdict question (sensedQuestion encounter settings question) ⌝ }
-{
-    let s = sensed_question(encounter, settings, question);
-    match opening(s) {
-        Moment::Never => empty_verdict(question),
-        Moment::At(start) => open_verdict(encounter, settings, question, s, start),
-    }
 }
 
 // "1 lower side clear, 2 upper, 3 both"
@@ -199,6 +28,26 @@ pub fn sides_number(sides: ClearSides) -> u8
         ClearSides::Lower => 1,
         ClearSides::Upper => 2,
         ClearSides::Both => 3,
+    }
+}
+
+fn verdict_kind(verdict: Verdict) -> u64
+    ensures { λ r. ⌜ r ≡ answerRecord (Judged verdict) .kind ⌝ }
+{
+    match verdict {
+        Verdict::Clear(_) => 65,
+        Verdict::Conflict(_) => 66,
+        Verdict::Conflicts(_, _) => 67,
+    }
+}
+
+// Document 01's number of an answer's kind.
+pub fn answer_kind(answer: Answer) -> u64
+    ensures { λ r. ⌜ r ≡ answerRecord answer .kind ⌝ }
+{
+    match answer {
+        Answer::Judged(verdict) => verdict_kind(verdict),
+        Answer::Refused(_) => 68,
     }
 }
 

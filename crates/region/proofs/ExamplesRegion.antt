@@ -5,7 +5,7 @@ use mathlib.Core.List.{[], _∷_, map}
 use Rattle.advisory.specs.Catalogue.{articleEntries, notJudged, catalogueOf}
 use Rattle.advisory.specs.ReactionTable.{reactionTable}
 use Rattle.advisory.specs.Advised.{advisedOf}
-use Rattle.judge.specs.Sensed.{sensedQuestion}
+use Rattle.sensed.specs.Sensed.{sensedQuestion}
 use Rattle.judge.specs.Examples.{Example, examples}
 use Rattle.region.specs.Regions.{L-expl, D-expl}
 use Rattle.region.specs.RegionExamples.{delayedAllowed, immediateAllowed, examplesWith, inRegion, isClear}

@@ -33,19 +33,19 @@ use Rattle.question.specs.declared.Encounter.{Encounter}
 use Rattle.question.specs.declared.Settings.{Settings}
 use Rattle.question.specs.declared.Question.{Question}
 use Rattle.question.specs.declared.Checked.{Checked}
-use Rattle.judge.specs.declared.ClearSides.{ClearSides}
-use Rattle.judge.specs.declared.Verdict.{Verdict}
-use Rattle.judge.specs.declared.Verdict.the-variants.{Clear, Conflict, Conflicts}
+use Rattle.verdict.specs.declared.ClearSides.{ClearSides}
+use Rattle.verdict.specs.declared.Verdict.{Verdict}
+use Rattle.verdict.specs.declared.Verdict.the-variants.{Clear, Conflict, Conflicts}
 use Rattle.judge.specs.declared.Answer.{Answer}
 use Rattle.question.specs.Limits.{distanceWithin, heightWithin, closingSpeedWithin, speedWithin, strengthWithin, delayWithin}
 use Rattle.question.specs.Refusals.{isNumber, twoSided, noLimit, encounterWithin, puckWithin, delayAccelerationWithin, sidesKnown, lowerWithin, adviceWithin, timesWithin, refusal}
-use Rattle.judge.specs.Sensed.{limitOf, sensedQuestion}
+use Rattle.sensed.specs.Sensed.{limitOf, sensedQuestion}
 use Rattle.coded.specs.Coded.{senseNumber, instructed, asked, codedQuestion}
-use Rattle.judge.specs.Verdicts.{verdict}
+use Rattle.verdict.specs.Verdicts.{verdict}
 use Rattle.judge.specs.Answers.{answer, AnswerRecord, answerRecord}
 use Rattle.judge.specs.Demand3.{RightOneSided}
 use Rattle.question.proofs.WithinLimits.{Between, between, within-in, within-limits}
-use Rattle.judge.proofs.AcceptedSizes.{accepted-sizes}
+use Rattle.sensed.proofs.AcceptedSizes.{accepted-sizes}
 use Rattle.integers.proofs.Branches.{picks-yes}
 use Rattle.judge.proofs.Demand3.{judged, one-sided}
 use Rattle.region.specs.Formula.{Formula, Says}

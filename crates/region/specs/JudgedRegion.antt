@@ -14,13 +14,13 @@ use Rattle.question.specs.declared.Settings.{Settings}
 use Rattle.question.specs.declared.Question.{Question}
 use Rattle.coded.specs.declared.CodedQuestion.{CodedQuestion}
 use Rattle.question.specs.declared.Checked.{Checked}
-use Rattle.judge.specs.declared.ClearSides.{ClearSides}
-use Rattle.judge.specs.declared.Verdict.{Verdict}
+use Rattle.verdict.specs.declared.ClearSides.{ClearSides}
+use Rattle.verdict.specs.declared.Verdict.{Verdict}
 use Rattle.judge.specs.declared.Answer.{Answer}
 use Rattle.question.specs.Refusals.{noLimit, refusal}
-use Rattle.judge.specs.Sensed.{sensedQuestion}
+use Rattle.sensed.specs.Sensed.{sensedQuestion}
 use Rattle.coded.specs.Coded.{codedQuestion}
-use Rattle.judge.specs.Verdicts.{verdict}
+use Rattle.verdict.specs.Verdicts.{verdict}
 use Rattle.judge.specs.Answers.{answer, answerRecord, AnswerRecord, answers}
 use Rattle.region.specs.Formula.{Formula, Says}
 use Rattle.region.specs.Figure5.{D-explᵈ}

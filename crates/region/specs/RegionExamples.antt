@@ -8,7 +8,7 @@ use Rattle.question.specs.declared.Question.{Question}
 use Rattle.coded.specs.declared.CodedQuestion.{CodedQuestion}
 use Rattle.question.specs.StartingSettings.{startingSettings}
 use Rattle.question.specs.Refusals.{isNumber, twoSided, noLimit, noDelay}
-use Rattle.judge.specs.Sensed.{sensedQuestion}
+use Rattle.sensed.specs.Sensed.{sensedQuestion}
 use Rattle.judge.specs.Examples.{Example, examples}
 use Rattle.region.specs.Formula.{Formula, holds}
 

@@ -9,11 +9,11 @@ use Rattle.question.specs.declared.Encounter.{Encounter}
 use Rattle.question.specs.declared.Settings.{Settings}
 use Rattle.question.specs.declared.Question.{Question}
 use Rattle.question.specs.declared.Checked.{Checked}
-use Rattle.judge.specs.declared.Verdict.{Verdict}
-use Rattle.judge.specs.declared.Verdict.the-variants.{Clear, Conflict, Conflicts}
+use Rattle.verdict.specs.declared.Verdict.{Verdict}
+use Rattle.verdict.specs.declared.Verdict.the-variants.{Clear, Conflict, Conflicts}
 use Rattle.question.specs.Refusals.{twoSided, refusal}
-use Rattle.judge.specs.Sensed.{sensedQuestion}
-use Rattle.judge.specs.Verdicts.{verdict}
+use Rattle.sensed.specs.Sensed.{sensedQuestion}
+use Rattle.verdict.specs.Verdicts.{verdict}
 use Rattle.judge.specs.Demand3.{RightOneSided, RightTwoSided}
 use Rattle.judge.proofs.Demand3.{one-sided, two-sided}
 use Rattle.record.specs.Numbers.{wordAt}

@@ -9,8 +9,8 @@ ghost use Rattle.reply.specs.declared.Reply.the-variants.{Answered};
 ghost use Rattle.reply.specs.AnswerBytes.{bigEndian, bodyBytes, replyBytes};
 use instant::Time;
 use judge::Answer;
-use judge::Verdict;
 use judge::sides_number;
+use verdict::Verdict;
 
 // What a record is answered: nothing, or an answer record.
 pub enum Reply {

@@ -13,13 +13,13 @@ use Rattle.question.specs.declared.Settings.{Settings}
 use Rattle.question.specs.declared.Question.{Question}
 use Rattle.question.specs.declared.Checked.{Checked}
 use Rattle.question.specs.declared.Checked.the-variants.{Accepted, Refused}
-use Rattle.judge.specs.declared.Verdict.{Verdict}
-use Rattle.judge.specs.declared.Verdict.the-variants.{Clear, Conflict, Conflicts}
+use Rattle.verdict.specs.declared.Verdict.{Verdict}
+use Rattle.verdict.specs.declared.Verdict.the-variants.{Clear, Conflict, Conflicts}
 use Rattle.judge.specs.declared.Answer.{Answer}
 use Rattle.question.specs.Refusals.{encounterWithin, puckWithin, delayAccelerationWithin, refusal, twoSided}
-use Rattle.judge.specs.Sensed.{sensedQuestion}
+use Rattle.sensed.specs.Sensed.{sensedQuestion}
 use Rattle.coded.specs.Coded.{asked, instructed, codedQuestion}
-use Rattle.judge.specs.Verdicts.{verdict}
+use Rattle.verdict.specs.Verdicts.{verdict}
 use Rattle.judge.specs.Answers.{checkedAnswer, answer}
 use Rattle.judge.specs.Demand3.{RightOneSided}
 use Rattle.judge.proofs.Demand3.{one-sided}

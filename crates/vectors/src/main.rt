@@ -9,7 +9,6 @@ ghost use Rattle.judge.specs.declared.Answer.the-variants.{Judged};
 ghost use Rattle.vectors.specs.Cases.{signed, numberAt, encounterIn, settingsIn, questionIn, recordNumbers, expectedNumbers, sameNumbers, tried};
 ghost use Rattle.vectors.specs.Reports.{oneIf, AtMost, noCases, counted, reportOn};
 use judge::Answer;
-use judge::Verdict;
 use judge::judge;
 use judge::sides_number;
 use question::Encounter;
@@ -17,6 +16,7 @@ use question::Question;
 use question::Settings;
 use record::wide;
 use record::word_at;
+use verdict::Verdict;
 
 const STANDARD_OUTPUT: i32 = 1;
 

@@ -1,19 +1,17 @@
 // Worked questions, judged through the entry for plain numbers. Each answer is a line: document 01's number of its kind,
 // then its values. The lines that `stdout` expects were computed apart from the judge, in exact fractions.
-ghost use mathlib.Core.Path.{_≡_};
 ghost use Prim.Native.Nat.{_<_};
-ghost use Rattle.judge.specs.declared.Answer.the-variants.{Judged};
-ghost use Rattle.judge.specs.Answers.{answerRecord};
 use coded::CodedQuestion;
 use coded::coded_question;
 use instant::Time;
 use judge::Answer;
-use judge::Verdict;
+use judge::answer_kind;
 use judge::judge;
 use judge::sides_number;
 use question::Encounter;
 use question::Question;
 use question::Settings;
+use verdict::Verdict;
 
 const DESCEND: i64 = 0;
 
@@ -313,26 +311,6 @@ fn write_time(t: Time) {
     write_number(t.seconds);
     write_number(t.remainder);
     write_number(t.divisor);
-}
-
-fn verdict_kind(verdict: Verdict) -> u64
-    ensures { λ r. ⌜ r ≡ answerRecord (Judged verdict) .kind ⌝ }
-{
-    match verdict {
-        Verdict::Clear(_) => 65,
-        Verdict::Conflict(_) => 66,
-        Verdict::Conflicts(_, _) => 67,
-    }
-}
-
-// Document 01's number of an answer's kind.
-fn answer_kind(answer: Answer) -> u64
-    ensures { λ r. ⌜ r ≡ answerRecord answer .kind ⌝ }
-{
-    match answer {
-        Answer::Judged(verdict) => verdict_kind(verdict),
-        Answer::Refused(_) => 68,
-    }
 }
 
 fn write_values(verdict: Verdict) {

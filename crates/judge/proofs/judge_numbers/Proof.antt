@@ -6,8 +6,8 @@ use Rattle.question.specs.declared.Settings.{Settings}
 use Rattle.question.specs.declared.Question.{Question}
 use Rattle.question.specs.declared.Checked.{Checked}
 use Rattle.question.specs.Refusals.{refusal}
-use Rattle.judge.specs.Sensed.{sensedQuestion}
-use Rattle.judge.specs.Verdicts.{verdict}
+use Rattle.sensed.specs.Sensed.{sensedQuestion}
+use Rattle.verdict.specs.Verdicts.{verdict}
 use Rattle.judge.specs.Answers.{checkedAnswer, answer}
 use Rattle.judge.specs.Results.{flatVerdict, flatAnswer, plainEncounter, plainSettings, plainQuestion}
 use Rattle.judge.proofs.StoredNumbers.{stored-encounter, stored-settings, stored-question, same-result}

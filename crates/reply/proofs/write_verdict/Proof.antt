@@ -6,7 +6,7 @@ use native.Mathlib.Omega.{arith}
 use lib.ListN.{length, set, length-set}
 use lib.Seq.{sets, length-sets}
 use Rattle.instant.specs.declared.Time.{Time}
-use Rattle.judge.specs.declared.Verdict.{Verdict}
+use Rattle.verdict.specs.declared.Verdict.{Verdict}
 use Rattle.judge.specs.declared.Answer.{Answer}
 use Rattle.judge.specs.Answers.{timeNumbers}
 use Rattle.reply.specs.declared.Reply.the-variants.{Answered}

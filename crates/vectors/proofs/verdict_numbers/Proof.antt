@@ -3,7 +3,7 @@ use mathlib.Core.Path.{sym, ap, _∙_}
 use mathlib.Core.List.{List, [], _∷_}
 use Prim.Native.Nat.{ℕ}
 use borrow.Author.Needs.{needs}
-use Rattle.judge.specs.declared.Verdict.{Verdict}
+use Rattle.verdict.specs.declared.Verdict.{Verdict}
 use Rattle.judge.specs.declared.Answer.the-variants.{Judged}
 use Rattle.judge.specs.Answers.{answerRecord}
 use Rattle.vectors.specs.Cases.{recordNumbers}

@@ -1,4 +1,4 @@
--- `judge::sensed_motion` meets its contract: the differences of speeds within their limits fit, and each value is in the sense.
+-- `sensed::sensed_motion` meets its contract: the differences of speeds within their limits fit, and each value is in the sense.
 use mathlib.Core.Path.{_≡_, ap₂, _∙_}
 use native.Mathlib.Omega.{arith}
 use borrow.Author.Needs.{needs, sfits-of}
@@ -9,11 +9,11 @@ use mir.Facts.{toZ-ofZ}
 use Rattle.integers.proofs.Machine.{Reading, machine, fits, result}
 use Rattle.advisory.specs.Sign.{sensed}
 use Rattle.window.proofs.Fields.{size}
-use Rattle.judge.specs.declared.Motion.{Motion}
+use Rattle.sensed.specs.declared.Motion.{Motion}
 use Rattle.question.specs.Refusals.{senseOf}
-use Rattle.judge.proofs.PlainFields.{read-height, read-speed, read-intruder, read-target, read-upper-target}
-use Rattle.judge.proofs.sensed_motion.Statement.{statement}
-use Rattle.judge.proofs.sensed_motion.Tie as tie
+use Rattle.sensed.proofs.PlainFields.{read-height, read-speed, read-intruder, read-target, read-upper-target}
+use Rattle.sensed.proofs.sensed_motion.Statement.{statement}
+use Rattle.sensed.proofs.sensed_motion.Tie as tie
 
 -- a stored value, and a stored difference
 abbrev stored : ℤ → ℤ

@@ -24,7 +24,7 @@ use Rattle.question.specs.declared.Checked.{Checked}
 use Rattle.question.specs.Limits.{speedWithin, strengthWithin, limitWithin}
 use Rattle.question.specs.Refusals.{isNumber, senseOf, twoSided, noLimit, upperZero, upperRanges, strengthsOrdered, targetsOrdered, upperWithin, refusal}
 use Rattle.question.proofs.WithinLimits.{Between, between, or-else, within-limits}
-use Rattle.judge.specs.Sensed.{limitOf, sensedQuestion}
+use Rattle.sensed.specs.Sensed.{limitOf, sensedQuestion}
 
 -- w × z is as large as z
 pub sensed-between : (w : Sense) (B : ℕ) (z : ℤ) → Between (negℤ (pos B)) (pos B) z → Between (negℤ (pos B)) (pos B) (sensed w z)

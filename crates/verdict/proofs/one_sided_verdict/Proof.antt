@@ -1,10 +1,10 @@
--- `judge::one_sided_verdict` meets its contract: by cases on the moment.
+-- `verdict::one_sided_verdict` meets its contract: by cases on the moment.
 use mathlib.Core.Path.{sym, ap, _∙_}
 use borrow.Author.Needs.{needs}
-use Rattle.judge.specs.declared.Verdict.the-variants.{Conflict}
-use Rattle.judge.specs.Verdicts.{oneSidedVerdict}
-use Rattle.judge.proofs.one_sided_verdict.Statement.{statement}
-use Rattle.judge.proofs.one_sided_verdict.Tie as tie
+use Rattle.verdict.specs.declared.Verdict.the-variants.{Conflict}
+use Rattle.verdict.specs.Verdicts.{oneSidedVerdict}
+use Rattle.verdict.proofs.one_sided_verdict.Statement.{statement}
+use Rattle.verdict.proofs.one_sided_verdict.Tie as tie
 
 enum-known-lower : tie.Need-enum-known-lower
 enum-known-lower c = search needs

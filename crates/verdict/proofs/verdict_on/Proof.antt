@@ -1,4 +1,4 @@
--- `judge::verdict_on` meets its contract: in an empty window no side has a conflict time, and else the verdict is that of the open window.
+-- `verdict::verdict_on` meets its contract: in an empty window no side has a conflict time, and else the verdict is that of the open window.
 use mathlib.Core.Path.{_≡_, refl, sym, ap, ap₂, _∙_, subst}
 use mathlib.Core.Bool.{Bool, true, false, cond}
 use borrow.Author.Needs.{needs}
@@ -14,11 +14,11 @@ use Rattle.question.specs.declared.Settings.{Settings}
 use Rattle.question.specs.declared.Question.{Question}
 use Rattle.question.specs.declared.Checked.{Checked}
 use Rattle.question.specs.Refusals.{twoSided, refusal}
-use Rattle.judge.specs.Sensed.{sensedQuestion}
-use Rattle.judge.specs.Verdicts.{oneSidedVerdict, twoSidedVerdict, verdictOf, verdict}
-use Rattle.judge.proofs.AcceptedSizes.{accepted-sizes, accepted-upper-sizes}
-use Rattle.judge.proofs.verdict_on.Statement.{statement}
-use Rattle.judge.proofs.verdict_on.Tie as tie
+use Rattle.sensed.specs.Sensed.{sensedQuestion}
+use Rattle.verdict.specs.Verdicts.{oneSidedVerdict, twoSidedVerdict, verdictOf, verdict}
+use Rattle.sensed.proofs.AcceptedSizes.{accepted-sizes, accepted-upper-sizes}
+use Rattle.verdict.proofs.verdict_on.Statement.{statement}
+use Rattle.verdict.proofs.verdict_on.Tie as tie
 
 empty-is : (x : Encounter) (y : Settings) (z : Question) → refusal x y z ≡ Checked.Accepted → opening (sensedQuestion x y z) ≡ Never → verdictOf z Never Never ≡ verdict z (sensedQuestion x y z)
 unfolding verdict

@@ -1,4 +1,4 @@
--- `judge::open_verdict` meets its contract: an accepted question has the sizes that each side asks for, and the verdict is the definition's.
+-- `verdict::open_verdict` meets its contract: an accepted question has the sizes that each side asks for, and the verdict is the definition's.
 use mathlib.Core.Path.{_≡_, sym, ap, ap₂, _∙_, subst}
 use borrow.Author.Needs.{needs}
 use Rattle.instant.specs.declared.Moment.the-variants.{At}
@@ -8,11 +8,11 @@ use Rattle.path.specs.Sizes.{Sizes, Sized}
 use Rattle.path.specs.Window.{opening}
 use Rattle.shown.specs.TimeShown.{timeShown}
 use Rattle.question.specs.Refusals.{twoSided}
-use Rattle.judge.specs.Verdicts.{oneSidedVerdict, twoSidedVerdict, verdict}
-use Rattle.judge.proofs.AcceptedSizes.{accepted-sizes, accepted-upper-sizes}
+use Rattle.verdict.specs.Verdicts.{oneSidedVerdict, twoSidedVerdict, verdict}
+use Rattle.sensed.proofs.AcceptedSizes.{accepted-sizes, accepted-upper-sizes}
 use Rattle.integers.proofs.Branches.{picks-yes, picks-no}
-use Rattle.judge.proofs.open_verdict.Statement.{statement}
-use Rattle.judge.proofs.open_verdict.Tie as tie
+use Rattle.verdict.proofs.open_verdict.Statement.{statement}
+use Rattle.verdict.proofs.open_verdict.Tie as tie
 
 lower-shown-requires : tie.Need-lower-shown-requires
 lower-shown-requires c κs =

@@ -1,5 +1,5 @@
 -- "One-sided: a verdict is clear, or a conflict that carries its time. Two-sided: clear if one side or both have no conflict time, naming the sides that
--- have none, else a conflict on both sides with two times." A time is shown where a conflict time exists (`Demand3`).
+-- have none, else a conflict on both sides with two times." A time is shown where a conflict time exists (`judge`, specs/Demand3.antt).
 use mathlib.Core.Bool.{cond}
 use Rattle.instant.specs.declared.Instant.{Instant}
 use Rattle.instant.specs.declared.Moment.{Moment}
@@ -10,9 +10,9 @@ use Rattle.path.specs.declared.SensedQuestion.{SensedQuestion}
 use Rattle.path.specs.declared.Side.the-variants.{Lower, Upper}
 use Rattle.shown.specs.TimeShown.{timeShown}
 use Rattle.question.specs.declared.Question.{Question}
-use Rattle.judge.specs.declared.ClearSides.{ClearSides}
-use Rattle.judge.specs.declared.Verdict.{Verdict}
-use Rattle.judge.specs.declared.Verdict.the-variants.{Clear, Conflict, Conflicts}
+use Rattle.verdict.specs.declared.ClearSides.{ClearSides}
+use Rattle.verdict.specs.declared.Verdict.{Verdict}
+use Rattle.verdict.specs.declared.Verdict.the-variants.{Clear, Conflict, Conflicts}
 use Rattle.question.specs.Refusals.{twoSided}
 
 -- "whole seconds, remainder and divisor", in lowest terms

@@ -10,7 +10,7 @@ use Rattle.path.specs.declared.SensedQuestion.{SensedQuestion}
 use Rattle.question.specs.declared.Encounter.{Encounter}
 use Rattle.question.specs.declared.Settings.{Settings}
 use Rattle.question.specs.declared.Question.{Question}
-use Rattle.judge.specs.declared.Motion.{Motion}
+use Rattle.sensed.specs.declared.Motion.{Motion}
 use Rattle.question.specs.Refusals.{senseOf, noLimit}
 
 -- "Limit 65,535 means none."

@@ -1,4 +1,4 @@
--- `judge::sensed_question` meets its contract: each field is stored exactly, and each part is the definition's. The upper strength is not negative, so
+-- `sensed::sensed_question` meets its contract: each field is stored exactly, and each part is the definition's. The upper strength is not negative, so
 -- its cast keeps it.
 use mathlib.Core.Path.{_≡_, refl, sym, ap, _∙_, subst}
 use Prim.Native.Nat.{ℕ}
@@ -13,12 +13,12 @@ use Rattle.integers.proofs.Certificates.{nat≡}
 use Rattle.integers.proofs.Laws.{max0-same}
 use Rattle.path.specs.declared.Limit.{Limit}
 use Rattle.path.specs.declared.SensedQuestion.{SensedQuestion}
-use Rattle.judge.specs.declared.Motion.{Motion}
-use Rattle.judge.specs.Sensed.{limitOf, sensedMotion, sensedQuestion}
+use Rattle.sensed.specs.declared.Motion.{Motion}
+use Rattle.sensed.specs.Sensed.{limitOf, sensedMotion, sensedQuestion}
 use Rattle.question.proofs.WithinLimits.{upper-between}
-use Rattle.judge.proofs.PlainFields.{exact-fields, ExactMotion, exact-motion}
-use Rattle.judge.proofs.sensed_question.Statement.{statement}
-use Rattle.judge.proofs.sensed_question.Tie as tie
+use Rattle.sensed.proofs.PlainFields.{exact-fields, ExactMotion, exact-motion}
+use Rattle.sensed.proofs.sensed_question.Statement.{statement}
+use Rattle.sensed.proofs.sensed_question.Tie as tie
 
 sensed-motion-requires : tie.Need-sensed-motion-requires
 sensed-motion-requires c κs = c .pre

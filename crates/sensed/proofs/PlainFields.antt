@@ -14,11 +14,11 @@ use Rattle.question.specs.declared.Encounter.{Encounter}
 use Rattle.question.specs.declared.Settings.{Settings}
 use Rattle.question.specs.declared.Question.{Question}
 use Rattle.question.specs.declared.Checked.{Checked}
-use Rattle.judge.specs.declared.Motion.{Motion}
+use Rattle.sensed.specs.declared.Motion.{Motion}
 use Rattle.question.specs.Refusals.{senseOf, refusal}
-use Rattle.judge.specs.Sensed.{sensedMotion}
+use Rattle.sensed.specs.Sensed.{sensedMotion}
 use Rattle.question.proofs.WithinLimits.{Between, within-limits, upper-between, limit-between}
-use Rattle.judge.proofs.AcceptedSizes.{sensed-between, speed-between}
+use Rattle.sensed.proofs.AcceptedSizes.{sensed-between, speed-between}
 
 -- a number within limits that a word holds is read back as it was stored
 exact : (B : ℕ) (x : ℤ) → T (ltb B (2 ^ 63)) → Between (negℤ (pos B)) (pos B) x → toZ w64 (ofZ w64 x) ≡ x

@@ -1,4 +1,4 @@
--- `judge::in_sense` meets its contract: w × x is x or its negation, which fits.
+-- `sensed::in_sense` meets its contract: w × x is x or its negation, which fits.
 use mathlib.Core.Path.{_≡_, sym, ap, _∙_}
 use mathlib.Core.List.{[], _∷_}
 use borrow.Author.Needs.{needs}
@@ -10,8 +10,8 @@ use Rattle.integers.proofs.Certificates.{ring}
 use Rattle.advisory.specs.declared.Sense.{Sense}
 use Rattle.advisory.specs.Sign.{sensed}
 use Rattle.advisory.proofs.Sensed.{sensed-climb, sensed-descend}
-use Rattle.judge.proofs.in_sense.Statement.{statement}
-use Rattle.judge.proofs.in_sense.Tie as tie
+use Rattle.sensed.proofs.in_sense.Statement.{statement}
+use Rattle.sensed.proofs.in_sense.Tie as tie
 
 enum-told : tie.Need-enum-told
 enum-told c = search needs

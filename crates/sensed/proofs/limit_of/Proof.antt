@@ -1,4 +1,4 @@
--- `judge::limit_of` meets its contract: the branch is the definition's.
+-- `sensed::limit_of` meets its contract: the branch is the definition's.
 use mathlib.Core.Path.{sym, ap, _∙_}
 use borrow.Author.Needs.{needs}
 use mir.Facts.{toZ-ofZ}
@@ -6,8 +6,8 @@ use Rattle.integers.specs.Extremes.{max0}
 use Rattle.integers.proofs.Machine.{fitting, plain-terms, plain}
 use Rattle.path.specs.declared.Limit.the-variants.{Unlimited, Upto}
 use Rattle.integers.proofs.Branches.{picks-yes, picks-no}
-use Rattle.judge.proofs.limit_of.Statement.{statement}
-use Rattle.judge.proofs.limit_of.Tie as tie
+use Rattle.sensed.proofs.limit_of.Statement.{statement}
+use Rattle.sensed.proofs.limit_of.Tie as tie
 
 returns : tie.Need-returns
 returns c =

@@ -1,10 +1,10 @@
--- `judge::empty_verdict` meets its contract: the branch is the definition's.
+-- `verdict::empty_verdict` meets its contract: the branch is the definition's.
 use mathlib.Core.Path.{sym, _∙_}
 use borrow.Author.Needs.{needs}
 use Rattle.integers.proofs.Branches.{picks-yes, picks-no}
 use Rattle.question.specs.Refusals.{twoSided}
-use Rattle.judge.proofs.empty_verdict.Statement.{statement}
-use Rattle.judge.proofs.empty_verdict.Tie as tie
+use Rattle.verdict.proofs.empty_verdict.Statement.{statement}
+use Rattle.verdict.proofs.empty_verdict.Tie as tie
 
 two-sided-requires : tie.Need-two-sided-requires
 two-sided-requires c κs = search needs

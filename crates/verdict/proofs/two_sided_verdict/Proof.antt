@@ -1,10 +1,10 @@
--- `judge::two_sided_verdict` meets its contract: by cases on the two moments.
+-- `verdict::two_sided_verdict` meets its contract: by cases on the two moments.
 use mathlib.Core.Path.{sym, ap₂, _∙_}
 use borrow.Author.Needs.{needs}
-use Rattle.judge.specs.declared.Verdict.the-variants.{Conflicts}
-use Rattle.judge.specs.Verdicts.{twoSidedVerdict}
-use Rattle.judge.proofs.two_sided_verdict.Statement.{statement}
-use Rattle.judge.proofs.two_sided_verdict.Tie as tie
+use Rattle.verdict.specs.declared.Verdict.the-variants.{Conflicts}
+use Rattle.verdict.specs.Verdicts.{twoSidedVerdict}
+use Rattle.verdict.proofs.two_sided_verdict.Statement.{statement}
+use Rattle.verdict.proofs.two_sided_verdict.Tie as tie
 
 enum-known-lower : tie.Need-enum-known-lower
 enum-known-lower c = search needs

@@ -1,0 +1,2 @@
+pub mod AcceptedSizes
+pub mod PlainFields
