@@ -1,5 +1,6 @@
 -- What the window's start decides: a window that does not hold it is empty, and one that does holds its end. And what the turning instant decides: the
--- path rises from there on, so where it is beyond the puck's edge at a later time, it stays so. Assumes nothing.
+-- path rises from there on, so where it is beyond the puck's edge at a later time, it stays so, and its lowest point leaves what there is to show.
+-- Assumes nothing.
 use mathlib.Core.Path.{_≡_, refl, sym, ap, _∙_, subst}
 use mathlib.Core.Bool.{Bool, true, false, cond, _&&_}
 use mathlib.Core.List.{List, [], _∷_, _++_}
@@ -34,6 +35,10 @@ use Rattle.shown.specs.declared.LowestPoint.{LowestPoint}
 use Rattle.shown.specs.declared.LowestPoint.the-variants.{Passed, Inside, Beyond}
 use Rattle.shown.specs.Search.{Opened, StartTried, shownAt, lowestBy, lowestPoint}
 use Rattle.shown.proofs.Steps.{yes, no, true-of, false-of, inside, outside-clear, hit, miss, no-search, only-search, ended, searches-is}
+
+-- the turning instant of a question, if there is one
+abbrev pub turning-of : SensedQuestion → Moment
+turning-of s = turningInstant (s .target) (s .strength) (s .delay) (u-d s)
 
 -- where no instant of a list has a conflict, and nothing is searched, nothing is shown
 none-shown : (side : Side) (s : SensedQuestion) (l : List Instant) → ((x : Instant) → Among x l → ¬ Conflict side s (x .n) (x .m)) → searches side s ≡ false → Never ≡ shownFrom side s l
@@ -141,7 +146,7 @@ module _ (s : SensedQuestion) where
   turned (pos q) a d x t e = (pos≤ {m = 0} {n = q} (omega arith), ap instantOf e)
   turned (negsuc q) a d x t e = absurd (no true (ap isNever e) tt)
 
-  module _ (z : Sizes s) (t : Instant) (e : turningInstant (s .target) (s .strength) (s .delay) (u-d s) ≡ At t) where
+  module _ (z : Sizes s) (t : Instant) (e : turning-of s ≡ At t) where
     departs : searches Lower s ≡ false
     departs = none (isNever (windowEnd s)) (inWindow s 0 1) (approaches Lower s) (false-of (approaches Lower s) (λ k. clashℤ (ltZ-yes k) (turned (s .target) (s .strength) (s .delay) (u-d s) t e .0)))
       where
@@ -180,10 +185,7 @@ afterLowest s (Inside t) = shownAt t (notBeyond Lower s (t .n) (t .m))
 afterLowest s Beyond = shownFrom Lower s (listed (windowEnd s))
 
 module _ (s : SensedQuestion) (z : Sizes s) (o : Opened s) (h : StartTried Lower s) where
-  abbrev turning : Moment
-  turning = turningInstant (s .target) (s .strength) (s .delay) (u-d s)
-
-  module _ (t : Instant) (e : turning ≡ At t) where
+  module _ (t : Instant) (e : turning-of s ≡ At t) where
     at-lowest : inWindow s (t .n) (t .m) ≡ true → (b : Bool) → notBeyond Lower s (t .n) (t .m) ≡ b → shownAt t b ≡ shownFrom Lower s (t ∷ listed (windowEnd s))
     at-lowest w true q = hit Lower s t (listed (windowEnd s)) (sym (inside Lower s (t .n) (t .m) w) ∙ q)
     at-lowest w false q = lowest-beyond s z t e w q
@@ -193,11 +195,11 @@ module _ (s : SensedQuestion) (z : Sizes s) (o : Opened s) (h : StartTried Lower
     by-tests false q true r = at-lowest r (notBeyond Lower s (t .n) (t .m)) refl
     by-tests false q false r = miss Lower s t (listed (windowEnd s)) (outside-clear Lower s (t .n) (t .m) r)
 
-  pub lowest-shown : afterLowest s (lowestPoint s) ≡ shownFrom Lower s (listed turning ++ listed (windowEnd s))
+  pub lowest-shown : afterLowest s (lowestPoint s) ≡ shownFrom Lower s (listed (turning-of s) ++ listed (windowEnd s))
   unfolding lowestPoint
-  lowest-shown = go turning refl
+  lowest-shown = go (turning-of s) refl
     where
-      go : (m : Moment) → turning ≡ m → afterLowest s (lowestBy s m) ≡ shownFrom Lower s (listed m ++ listed (windowEnd s))
+      go : (m : Moment) → turning-of s ≡ m → afterLowest s (lowestBy s m) ≡ shownFrom Lower s (listed m ++ listed (windowEnd s))
       go Never e = refl
       go (At t) e = by-tests t e (noLater t (windowStart s)) refl (inWindow s (t .n) (t .m)) refl
 
@@ -207,9 +209,9 @@ insideOf Passed = Never
 insideOf (Inside t) = At t
 insideOf Beyond = Never
 
-pub inside-turning : (s : SensedQuestion) (t : Instant) → lowestPoint s ≡ Inside t → turningInstant (s .target) (s .strength) (s .delay) (u-d s) ≡ At t
+pub inside-turning : (s : SensedQuestion) (t : Instant) → lowestPoint s ≡ Inside t → turning-of s ≡ At t
 unfolding lowestPoint
-inside-turning s t e = go (turningInstant (s .target) (s .strength) (s .delay) (u-d s)) e
+inside-turning s t e = go (turning-of s) e
   where
     picked : (x : Instant) (b w : Bool) → cond b Passed (cond w (Inside x) Beyond) ≡ Inside t → At x ≡ At t
     picked x true w h = absurd (no true (ap (λ (p : LowestPoint). isNever (insideOf p)) h) tt)

@@ -1,4 +1,4 @@
-// The window at an instant n/m, and its two ends: exact 64-bit code for the definitions of `path`.
+// The window at an instant n/m, its first time and its end: exact 64-bit code for the definitions of `path`.
 // Locals bear document 01's letters (`path`, specs/Letters.antt).
 ghost use mathlib.Core.Path.{_≡_};
 ghost use Prim.Native.Nat.{_<_, _^_};

@@ -1,5 +1,5 @@
 -- `binding::flat_outcome` meets its contract, case by case.
-use mathlib.Core.Path.{_≡_, sym, ap}
+use mathlib.Core.Path.{sym, ap}
 use borrow.Author.Needs.{needs}
 use Rattle.binding.specs.Flat.{flatOutcome}
 use Rattle.binding.proofs.flat_outcome.Statement.{statement}

@@ -1,5 +1,5 @@
 -- `shown::conflict_at_delay` meets its contract: before d the window's start, and d in the window or not; else d has no conflict that the start has not.
-use mathlib.Core.Path.{_≡_, sym, _∙_, subst}
+use mathlib.Core.Path.{sym, _∙_, subst}
 use Prim.Native.Nat.{_*_, _≤_}
 use native.Mathlib.Nat.{mul-le-mul}
 use native.Mathlib.Omega.{arith}

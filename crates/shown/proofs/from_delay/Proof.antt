@@ -2,20 +2,15 @@
 use mathlib.Core.Path.{_≡_, sym, _∙_}
 use mathlib.Core.Bool.{false}
 use mathlib.Core.List.{_++_}
-use Rattle.instant.specs.declared.Moment.{Moment}
 use Rattle.instant.specs.Order.{_÷_}
-use Rattle.path.specs.declared.SensedQuestion.{SensedQuestion}
 use Rattle.path.specs.declared.Side.the-variants.{Lower}
-use Rattle.path.specs.Paths.{u-d}
 use Rattle.path.specs.Window.{windowEnd}
 use Rattle.path.specs.Conflict.{inConflict}
-use Rattle.path.specs.Instants.{listed, turningInstant}
+use Rattle.path.specs.Instants.{listed}
 use Rattle.shown.proofs.Steps.{hit, miss}
+use Rattle.shown.proofs.OpenWindow.{turning-of}
 use Rattle.shown.proofs.from_delay.Statement.{statement}
 use Rattle.shown.proofs.from_delay.Tie as tie
-
-abbrev turning-of : SensedQuestion → Moment
-turning-of s = turningInstant (s .target) (s .strength) (s .delay) (u-d s)
 
 conflict-at-delay-requires : tie.Need-conflict-at-delay-requires
 conflict-at-delay-requires c κs = c .pre

@@ -8,19 +8,15 @@ use Rattle.instant.specs.declared.Moment.{Moment}
 use Rattle.instant.specs.declared.Moment.the-variants.{At, Never}
 use Rattle.instant.specs.Order.{noLater}
 use Rattle.path.specs.declared.SensedQuestion.{SensedQuestion}
-use Rattle.path.specs.Paths.{u-d}
 use Rattle.path.specs.Window.{inWindow, windowStart}
-use Rattle.path.specs.Instants.{Among, listed, turningInstant}
+use Rattle.path.specs.Instants.{Among, listed}
 use Rattle.window.proofs.EndsInReach.{Near, near-sized, windowStart-near}
-use Rattle.shown.specs.declared.LowestPoint.{LowestPoint}
 use Rattle.shown.specs.declared.LowestPoint.the-variants.{Passed, Inside, Beyond}
 use Rattle.shown.specs.Search.{lowestBy, lowestPoint}
 use Rattle.shown.proofs.InstantsInReach.{turnings-near}
+use Rattle.shown.proofs.OpenWindow.{turning-of}
 use Rattle.shown.proofs.lowest_point.Statement.{statement}
 use Rattle.shown.proofs.lowest_point.Tie as tie
-
-abbrev turning-of : SensedQuestion → Moment
-turning-of s = turningInstant (s .target) (s .strength) (s .delay) (u-d s)
 
 -- by the turning instant, and the two tests at it
 module _ (s : SensedQuestion) where
