@@ -1,6 +1,6 @@
 -- The instants that the rule tries, and the second that it searches for, are small: the comparisons at them fit 64 bits, and so do a time's three numbers
 -- 32. Assumes nothing.
-use mathlib.Core.Path.{sym, subst}
+use mathlib.Core.Path.{_≡_, refl, sym, subst}
 use mathlib.Core.List.{[], _∷_}
 use mathlib.Core.Logic.{inl, inr, ⊎-elim}
 use Prim.Native.Nat.{_+_, _*_, _<_, _≤_}
@@ -12,6 +12,7 @@ use Rattle.integers.proofs.Quotation.{quote}
 use Rattle.integers.proofs.Certificates.{by≤, gap≤, _⊞_, _⊠_, 0≤pos, pos≤}
 use Rattle.integers.proofs.Laws.{split≤, max0-le}
 use Rattle.instant.specs.declared.Instant.{Instant}
+use Rattle.instant.specs.declared.Moment.{Moment}
 use Rattle.instant.specs.declared.Moment.the-variants.{At}
 use Rattle.instant.specs.Order.{_÷_}
 use Rattle.instant.specs.Order as order
@@ -21,11 +22,12 @@ use Rattle.path.specs.declared.Side.the-variants.{Lower, Upper}
 use Rattle.path.specs.Paths.{u-d}
 use Rattle.path.specs.Window.{windowEnd}
 use Rattle.path.specs.Instants.{Among, listed, turningInstant, pathInstants, instants}
-use Rattle.path.specs.Sizes.{Sizes, Sized, searchEnd}
+use Rattle.path.specs.Sizes.{Sizes, Sized, InReach, searchEnd}
 use Rattle.path.proofs.Membership.{among-one, among-either}
 use Rattle.path.proofs.WindowEnds.{endless-start}
 use Rattle.path.proofs.SideSizes.{sizes-of}
 use Rattle.path.proofs.SideProfiles.{Hit, Endless, conflict-instant, reaches-end}
+use Rattle.conflict.proofs.Fields.{side-reach}
 use Rattle.window.proofs.EndsInReach.{Near, near-sized, second-near, windowStart-near, windowEnd-near}
 use Rattle.shown.specs.TimeRule.{Picks}
 
@@ -51,6 +53,9 @@ pub turnings-near : (s : SensedQuestion) → Sizes s → (q : ℤ) (t : Instant)
 turnings-near s z (pos q) t i = among-one Near (s .delay * s .strength + max0 (negℤ (u-d s)) ÷ s .strength) t (turning-near s z) i
 turnings-near s z (negsuc q) t i = absurd i
 
+pub turning-reach : (s : SensedQuestion) → Sizes s → (t : Instant) → turningInstant (s .target) (s .strength) (s .delay) (u-d s) ≡ At t → Near t
+turning-reach s z t e = turnings-near s z (s .target) t (subst (λ (m : Moment). Among t (listed m)) (sym e) (inl refl))
+
 path-near : (side : Side) (s : SensedQuestion) → Sizes s → (t : Instant) → Among t (pathInstants side s) → Near t
 path-near Lower s z t (inl e) = subst Near (sym e) (delay-near s z)
 path-near Lower s z t (inr i) = turnings-near s z (s .target) t i
@@ -59,6 +64,10 @@ path-near Upper s z t i = absurd i
 pub instants-near : (side : Side) (s : SensedQuestion) → Sizes s → (t : Instant) → Among t (instants side s) → Near t
 instants-near side s z t (inl e) = subst Near (sym e) (windowStart-near s z)
 instants-near side s z t (inr i) = ⊎-elim (path-near side s z t) (windowEnd-near s z t) (among-either t (pathInstants side s) (listed (windowEnd s)) i)
+
+-- ---- the window's end, in the reach of its side
+pub end-reach : (side : Side) (s : SensedQuestion) → Sized side s → (t : Instant) → windowEnd s ≡ At t → InReach side (t .n) (t .m)
+end-reach side s z t e = side-reach side (windowEnd-near s (sizes-of side s z) t (subst (λ (m : Moment). Among t (listed m)) (sym e) (inl refl)))
 
 -- ---- the whole second that a search finds
 last-small : (side : Side) (s : SensedQuestion) → Sized side s → searchEnd side s ≤ 200480000

@@ -101,10 +101,11 @@ module _ (s : SensedQuestion) where
     zero-in e = ap (λ (t : Instant). inWindow s (t .n) (t .m)) (sym (endless-start-zero s e)) ∙ o
 
     -- so at the end a conflict is the path's alone
-    pub end-shown : (side : Side) (t : Instant) → windowEnd s ≡ At t → shownAt t (notBeyond side s (t .n) (t .m)) ≡ shownFrom side s (listed (windowEnd s))
+    pub end-shown : (side : Side) (t : Instant) → windowEnd s ≡ At t → shownAt side s t ≡ shownFrom side s (listed (windowEnd s))
+    unfolding shownAt
     end-shown side t e = go (notBeyond side s (t .n) (t .m)) refl ∙ ap (λ (m : Moment). shownFrom side s (listed m)) (sym e)
       where
-        go : (b : Bool) → notBeyond side s (t .n) (t .m) ≡ b → shownAt t b ≡ shownFrom side s (t ∷ [])
+        go : (b : Bool) → notBeyond side s (t .n) (t .m) ≡ b → cond b (At t) Never ≡ shownFrom side s (t ∷ [])
         go true h = hit side s t [] (sym (inside side s (t .n) (t .m) (end-in t e)) ∙ h)
         go false h = ended side s t e ∙ miss side s t [] (sym (inside side s (t .n) (t .m) (end-in t e)) ∙ h)
 
@@ -181,16 +182,17 @@ module _ (s : SensedQuestion) where
 -- what is shown after d, by the path's lowest point
 abbrev pub afterLowest : SensedQuestion → LowestPoint → Moment
 afterLowest s Passed = Never
-afterLowest s (Inside t) = shownAt t (notBeyond Lower s (t .n) (t .m))
+afterLowest s (Inside t) = shownAt Lower s t
 afterLowest s Beyond = shownFrom Lower s (listed (windowEnd s))
 
 module _ (s : SensedQuestion) (z : Sizes s) (o : Opened s) (h : StartTried Lower s) where
   module _ (t : Instant) (e : turning-of s ≡ At t) where
-    at-lowest : inWindow s (t .n) (t .m) ≡ true → (b : Bool) → notBeyond Lower s (t .n) (t .m) ≡ b → shownAt t b ≡ shownFrom Lower s (t ∷ listed (windowEnd s))
+    at-lowest : inWindow s (t .n) (t .m) ≡ true → (b : Bool) → notBeyond Lower s (t .n) (t .m) ≡ b → cond b (At t) Never ≡ shownFrom Lower s (t ∷ listed (windowEnd s))
     at-lowest w true q = hit Lower s t (listed (windowEnd s)) (sym (inside Lower s (t .n) (t .m) w) ∙ q)
     at-lowest w false q = lowest-beyond s z t e w q
 
     by-tests : (b : Bool) → noLater t (windowStart s) ≡ b → (w : Bool) → inWindow s (t .n) (t .m) ≡ w → afterLowest s (cond b Passed (cond w (Inside t) Beyond)) ≡ shownFrom Lower s (t ∷ listed (windowEnd s))
+    unfolding shownAt
     by-tests true q w r = turned-before s z t e o h (noLater-true t (windowStart s) .0 q)
     by-tests false q true r = at-lowest r (notBeyond Lower s (t .n) (t .m)) refl
     by-tests false q false r = miss Lower s t (listed (windowEnd s)) (outside-clear Lower s (t .n) (t .m) r)

@@ -1,7 +1,7 @@
 -- What the steps of the code know and give: which instants have been tried without a conflict, where the path is lowest, and the first whole second by
 -- its height alone.
 use mathlib.Core.Path.{_≡_}
-use mathlib.Core.Bool.{Bool, true, false, cond}
+use mathlib.Core.Bool.{true, false, cond}
 use Rattle.instant.specs.declared.Instant.{Instant}
 use Rattle.instant.specs.declared.Moment.{Moment}
 use Rattle.instant.specs.declared.Moment.the-variants.{At, Never}
@@ -32,9 +32,10 @@ abbrev pub Tried : Side → SensedQuestion → Type 0
 Tried Lower s = StartTried Lower s × (inConflict Lower s (d s) 1 ≡ false)
 Tried Upper s = StartTried Upper s
 
--- an instant of the window, shown where the path is not beyond the intruder
-abbrev pub shownAt : Instant → Bool → Moment
-shownAt t reached = cond reached (At t) Never
+-- an instant of the window, shown if the path is not beyond the intruder there
+unfoldable pub shownAt : Side → SensedQuestion → Instant → Moment
+unfolding notBeyond
+shownAt side s t = cond (notBeyond side s (t .n) (t .m)) (At t) Never
 
 -- Where the path's lowest point after the delay lies, by its turning instant: "d + max(0, −u_d)/a if q ≥ 0"
 abbrev pub lowestBy : SensedQuestion → Moment → LowestPoint

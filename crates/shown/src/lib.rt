@@ -9,7 +9,7 @@ ghost use Rattle.path.specs.Paths.{u-d};
 ghost use Rattle.path.specs.Window.{windowStart, windowEnd, opening};
 ghost use Rattle.path.specs.Conflict.{inConflict};
 ghost use Rattle.path.specs.Instants.{listed, turningInstant, pathInstants};
-ghost use Rattle.path.specs.Sizes.{Sizes, Sized, searchStart, searchEnd};
+ghost use Rattle.path.specs.Sizes.{Sizes, Sized, InReach, searchStart, searchEnd};
 ghost use Rattle.shown.specs.TimeShown.{approaches, searched, shownFrom, timeShown};
 ghost use Rattle.shown.specs.Search.{Opened, StartTried, Tried, shownAt, lowestPoint, Searchable, firstReached};
 use conflict::not_beyond;
@@ -106,11 +106,13 @@ fn from_search(side: Side, s: SensedQuestion) -> Moment
     Moment::At(Instant { n: n, m: 1 })
 }
 
-// An instant of the window, where the path is not beyond the intruder there.
-fn shown_at(t: Instant, reached: bool) -> Moment
-    ensures { λ r. ⌜ r ≡ shownAt t reached ⌝ }
+// An instant of the window, shown if the path is not beyond the intruder there.
+fn shown_at(side: Side, s: SensedQuestion, t: Instant) -> Moment
+    requires { ⌜ Sized side s ⌝ }
+    requires { ⌜ InReach side (t .n) (t .m) ⌝ }
+    ensures { λ r. ⌜ r ≡ shownAt side s t ⌝ }
 {
-    if reached {
+    if not_beyond(side, s, t.n, t.m) {
         return Moment::At(t);
     }
     Moment::Never
@@ -125,7 +127,7 @@ fn lower_end(s: SensedQuestion) -> Moment
     let end = window_end(s);
     match end {
         Moment::Never => from_search(Side::Lower, s),
-        Moment::At(t) => shown_at(t, not_beyond(Side::Lower, s, t.n, t.m)),
+        Moment::At(t) => shown_at(Side::Lower, s, t),
     }
 }
 
@@ -137,7 +139,7 @@ fn upper_end(s: SensedQuestion) -> Moment
     let end = window_end(s);
     match end {
         Moment::Never => from_search(Side::Upper, s),
-        Moment::At(t) => shown_at(t, not_beyond(Side::Upper, s, t.n, t.m)),
+        Moment::At(t) => shown_at(Side::Upper, s, t),
     }
 }
 
@@ -179,7 +181,7 @@ fn from_lowest(s: SensedQuestion, start: Instant) -> Moment
 {
     match lowest_point(s, start) {
         LowestPoint::Passed => Moment::Never,
-        LowestPoint::Inside(t) => shown_at(t, not_beyond(Side::Lower, s, t.n, t.m)),
+        LowestPoint::Inside(t) => shown_at(Side::Lower, s, t),
         LowestPoint::Beyond => lower_end(s),
     }
 }

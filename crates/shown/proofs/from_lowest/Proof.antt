@@ -1,12 +1,9 @@
 -- `shown::from_lowest` meets its contract: what the lowest point leaves to show is what the instants after d show.
-use mathlib.Core.Path.{_≡_, refl, sym, ap, _∙_, subst}
-use mathlib.Core.Logic.{inl}
+use mathlib.Core.Path.{_≡_, sym, ap, _∙_}
 use borrow.Author.Needs.{needs}
-use Rattle.instant.specs.declared.Moment.{Moment}
-use Rattle.path.specs.Instants.{Among, listed}
 use Rattle.shown.specs.declared.LowestPoint.the-variants.{Inside}
-use Rattle.shown.specs.Search.{shownAt, lowestPoint}
-use Rattle.shown.proofs.InstantsInReach.{turnings-near}
+use Rattle.shown.specs.Search.{lowestPoint}
+use Rattle.shown.proofs.InstantsInReach.{turning-reach}
 use Rattle.shown.proofs.OpenWindow.{afterLowest, lowest-shown, inside-turning}
 use Rattle.shown.proofs.from_lowest.Statement.{statement}
 use Rattle.shown.proofs.from_lowest.Tie as tie
@@ -23,16 +20,13 @@ enum-known-t c = search needs
 is-inside : (c : tie.After-t) → lowestPoint (c .before .before .before .args .s) ≡ Inside (c .t .given .0 .0)
 is-inside c = sym (c .before .before .lowest-point .ensures) ∙ c .t .given .1
 
-not-beyond-requires : tie.Need-not-beyond-requires
-not-beyond-requires c κs =
+shown-at-requires : tie.Need-shown-at-requires
+shown-at-requires c κs =
     let d = c .before in
     let z = d .before .before .before in
     let s = z .args .s in
     let t = d .t .given .0 .0 in
-    (z .pre .0, turnings-near s (z .pre .0) (s .target) t (subst (λ (m : Moment). Among t (listed m)) (sym (inside-turning s t (is-inside d))) (inl refl)))
-
-shown-at-requires : tie.Need-shown-at-requires
-shown-at-requires c κs = search needs
+    (z .pre .0, turning-reach s (z .pre .0) t (inside-turning s t (is-inside d)))
 
 enum-told-2 : tie.Need-enum-told-2
 enum-told-2 c = search needs
@@ -48,10 +42,9 @@ returns c =
 
 returns-2 : tie.Need-returns-2
 returns-2 c =
-    let d = c .before .before .before in
+    let d = c .before .before in
     let z = d .before .before .before in
-    c .shown-at .ensures ∙ ap (shownAt (d .t .given .0 .0)) (c .before .not-beyond .ensures)
-    ∙ ap (afterLowest (z .args .s)) (sym (is-inside d)) ∙ lowest-shown (z .args .s) (z .pre .0) (z .pre .1 .0 .0) (z .pre .1 .0 .1 .0)
+    c .shown-at .ensures ∙ ap (afterLowest (z .args .s)) (sym (is-inside d)) ∙ lowest-shown (z .args .s) (z .pre .0) (z .pre .1 .0 .0) (z .pre .1 .0 .1 .0)
 
 returns-3 : tie.Need-returns-3
 returns-3 c =
@@ -61,4 +54,4 @@ returns-3 c =
     c .lower-end .ensures ∙ ap (afterLowest (z .args .s)) (sym (sym (w .lowest-point .ensures) ∙ m .enum-told2 .given .1)) ∙ lowest-shown (z .args .s) (z .pre .0) (z .pre .1 .0 .0) (z .pre .1 .0 .1 .0)
 
 pub from-lowest-spec : {M : Type 1} → statement M
-from-lowest-spec = tie.close (tie.spec lowest-point-requires enum-told enum-known-t not-beyond-requires shown-at-requires enum-told-2 lower-end-requires returns returns-2 returns-3)
+from-lowest-spec = tie.close (tie.spec lowest-point-requires enum-told enum-known-t shown-at-requires enum-told-2 lower-end-requires returns returns-2 returns-3)

@@ -1,19 +1,16 @@
 -- `shown::lowest_point` meets its contract: by the turning instant, if there is one, and its two tests.
 use mathlib.Core.Path.{_≡_, refl, sym, ap, ap₂, _∙_, subst}
 use mathlib.Core.Bool.{Bool, true, false, cond}
-use mathlib.Core.Logic.{inl}
 use borrow.Author.Needs.{needs}
 use Rattle.instant.specs.declared.Instant.{Instant}
-use Rattle.instant.specs.declared.Moment.{Moment}
 use Rattle.instant.specs.declared.Moment.the-variants.{At, Never}
 use Rattle.instant.specs.Order.{noLater}
 use Rattle.path.specs.declared.SensedQuestion.{SensedQuestion}
 use Rattle.path.specs.Window.{inWindow, windowStart}
-use Rattle.path.specs.Instants.{Among, listed}
 use Rattle.window.proofs.EndsInReach.{Near, near-sized, windowStart-near}
 use Rattle.shown.specs.declared.LowestPoint.the-variants.{Passed, Inside, Beyond}
 use Rattle.shown.specs.Search.{lowestBy, lowestPoint}
-use Rattle.shown.proofs.InstantsInReach.{turnings-near}
+use Rattle.shown.proofs.InstantsInReach.{turning-reach}
 use Rattle.shown.proofs.OpenWindow.{turning-of}
 use Rattle.shown.proofs.lowest_point.Statement.{statement}
 use Rattle.shown.proofs.lowest_point.Tie as tie
@@ -41,10 +38,7 @@ turning-is : (c : tie.After-turning) → turning-of (c .before .before .before .
 turning-is c = sym (c .before .before .turning-instant .ensures) ∙ c .turning .given .1
 
 turning-near : (c : tie.After-turning) → Near (c .turning .given .0 .0)
-turning-near c =
-    let z = c .before .before .before in
-    let t = c .turning .given .0 .0 in
-    turnings-near (z .args .s) (z .pre .0) (z .args .s .target) t (subst (λ (m : Moment). Among t (listed m)) (sym (turning-is c)) (inl refl))
+turning-near c = let z = c .before .before .before in turning-reach (z .args .s) (z .pre .0) (c .turning .given .0 .0) (turning-is c)
 
 no-later-requires : tie.Need-no-later-requires
 no-later-requires c κs =

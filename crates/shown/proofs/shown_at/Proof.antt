@@ -1,15 +1,26 @@
--- `shown::shown_at` meets its contract: the branch is the definition's.
-use mathlib.Core.Path.{sym}
+-- `shown::shown_at` meets its contract: the comparison decides, as in the definition.
+use mathlib.Core.Path.{sym, _∙_}
 use Rattle.instant.specs.declared.Moment.the-variants.{At, Never}
+use Rattle.path.specs.Conflict.{notBeyond}
 use Rattle.integers.proofs.Branches.{picks-yes, picks-no}
+use Rattle.shown.specs.Search.{shownAt}
 use Rattle.shown.proofs.shown_at.Statement.{statement}
 use Rattle.shown.proofs.shown_at.Tie as tie
 
+not-beyond-requires : tie.Need-not-beyond-requires
+not-beyond-requires c κs = c .pre
+
 returns : tie.Need-returns
-returns c = let a = c .before .args in sym (picks-yes (a .reached) (At (a .t)) Never (c .if1 .taken))
+unfolding shownAt
+returns c =
+    let a = c .before .before .args in
+    sym (picks-yes (notBeyond (a .side) (a .s) (a .t .n) (a .t .m)) (At (a .t)) Never (sym (c .before .not-beyond .ensures) ∙ c .if1 .taken))
 
 returns-2 : tie.Need-returns-2
-returns-2 c = let a = c .before .args in sym (picks-no (a .reached) (At (a .t)) Never (c .if1 .left))
+unfolding shownAt
+returns-2 c =
+    let a = c .before .before .args in
+    sym (picks-no (notBeyond (a .side) (a .s) (a .t .n) (a .t .m)) (At (a .t)) Never (sym (c .before .not-beyond .ensures) ∙ c .if1 .left))
 
 pub shown-at-spec : {M : Type 1} → statement M
-shown-at-spec = tie.close (tie.spec returns returns-2)
+shown-at-spec = tie.close (tie.spec not-beyond-requires returns returns-2)
