@@ -3,7 +3,7 @@
 use mathlib.Core.Bool.{Bool, cond}
 use mathlib.Core.Path.{_≡_}
 use Prim.Native.Nat.{ℕ, _*_, _^_, _≤_, _<_}
-use lib.Dec.{leb, eqb}
+use lib.Dec.{leb}
 use Rattle.instant.specs.declared.Instant.{Instant}
 
 infix 40 _÷_
@@ -27,10 +27,6 @@ a ≈ b = a .n * b .m ≡ b .n * a .m
 -- the test of a ≼ b
 abbrev pub noLater : Instant → Instant → Bool
 noLater a b = leb (a .n * b .m) (b .n * a .m)
-
--- the test of a ≈ b
-abbrev pub sameInstant : Instant → Instant → Bool
-sameInstant a b = eqb (a .n * b .m) (b .n * a .m)
 
 -- the earlier of two instants: a where a is no later than b, else b
 abbrev pub earlier : Instant → Instant → Instant
