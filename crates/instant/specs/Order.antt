@@ -32,7 +32,7 @@ noLater a b = leb (a .n * b .m) (b .n * a .m)
 abbrev pub earlier : Instant → Instant → Instant
 earlier a b = cond (noLater a b) a b
 
--- small enough that the products fit 64 bits; the limits of document 01 keep n to 200,480,000 and m to 150,000
+-- small enough that the products fit 64 bits; the limits of document 01 keep n and m far below
 pub record Sized (a : Instant) : Type 0 where
   pub n : a .n < 2 ^ 32
   pub m : a .m < 2 ^ 32

@@ -3,6 +3,7 @@ use mathlib.Core.Path.{_≡_, ap, _∙_}
 use borrow.Author.Needs.{needs, sfits-of}
 use lib.IntN.{ℤ, pos}
 use mir.Facts.{toZ-ofZ}
+use Rattle.limits.specs.Limits.{maxStrength, maxDelay}
 use Rattle.integers.proofs.Machine.{bounded-word, result}
 use Rattle.advisory.specs.Catalogue.{rateOf}
 use Rattle.question.specs.declared.Question.{Question}
@@ -36,8 +37,8 @@ returns c =
     same-question
     (toZ-ofZ (sfits-of (s .sense-number .ok)) ∙ s .sense-number .ensures)
     (toZ-ofZ (sfits-of (t .target-rate .ok)) ∙ t .target-rate .ensures ∙ ap (rateOf (i .target)) (toZ-ofZ (z .fits .v)))
-    (result (bounded-word (i .strength) 2000 (z .pre .strength-to)) tt)
-    (result (bounded-word (i .delay) 60 (z .pre .delay-to)) tt)
+    (result (bounded-word (i .strength) maxStrength (z .pre .strength-to)) tt)
+    (result (bounded-word (i .delay) maxDelay (z .pre .delay-to)) tt)
     (toZ-ofZ (z .fits .limit))
 
 pub instructed-spec : {M : Type 1} → statement M
