@@ -1,5 +1,4 @@
 pub mod Answers
-pub mod Results
 pub mod Demand3
 pub mod Examples
 pub mod Mirror
