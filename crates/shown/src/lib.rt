@@ -11,7 +11,7 @@ ghost use Rattle.path.specs.Conflict.{inConflict};
 ghost use Rattle.path.specs.Instants.{listed, turningInstant, pathInstants};
 ghost use Rattle.path.specs.Sizes.{Sizes, Sized, InReach, searchStart, searchEnd};
 ghost use Rattle.shown.specs.TimeShown.{approaches, searched, shownFrom, timeShown};
-ghost use Rattle.shown.specs.inner.Search.{Opened, StartTried, Tried, shownAt, lowestPoint, Searchable, firstReached};
+ghost use Rattle.shown.specs.inner.Steps.{Opened, StartTried, Tried, shownAt, lowestPoint, Searchable, firstReached};
 use conflict::not_beyond;
 use conflict::speed_after_delay;
 use conflict::upper_target;

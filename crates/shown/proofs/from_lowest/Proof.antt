@@ -2,7 +2,7 @@
 use mathlib.Core.Path.{_≡_, sym, ap, _∙_}
 use borrow.Author.Needs.{needs}
 use Rattle.shown.specs.declared.LowestPoint.the-variants.{Inside}
-use Rattle.shown.specs.inner.Search.{lowestPoint}
+use Rattle.shown.specs.inner.Steps.{lowestPoint}
 use Rattle.shown.proofs.InstantsInReach.{turning-reach}
 use Rattle.shown.proofs.OpenWindow.{afterLowest, lowest-shown, inside-turning}
 use Rattle.shown.proofs.from_lowest.Statement.{statement}

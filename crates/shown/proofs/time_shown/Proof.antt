@@ -13,7 +13,7 @@ use Rattle.path.proofs.SideSizes.{sizes-of}
 use Rattle.conflict.proofs.Fields.{side-reach}
 use Rattle.window.proofs.EndsInReach.{Near, windowStart-near}
 use Rattle.shown.specs.TimeShown.{shownFrom, timeShown}
-use Rattle.shown.specs.inner.Search.{StartTried}
+use Rattle.shown.specs.inner.Steps.{StartTried}
 use Rattle.shown.proofs.OpenWindow.{opened-at, first-tried, first-hit, first-miss}
 use Rattle.shown.proofs.time_shown.Statement.{statement}
 use Rattle.shown.proofs.time_shown.Tie as tie
