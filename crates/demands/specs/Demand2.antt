@@ -17,7 +17,7 @@ use Rattle.advisory.proofs.TablesAgree.{advised-is-table-1, listed-has-one-row,
 use Rattle.question.specs.declared.Encounter.{Encounter}
 use Rattle.question.specs.declared.Settings.{Settings}
 use Rattle.question.specs.declared.Question.{Question}
-use Rattle.question.specs.Refusals.{noLimit}
+use Rattle.limits.specs.Limits.{noLimit}
 use Rattle.sensed.specs.Sensed.{sensedQuestion}
 use Rattle.judge.specs.declared.Answer.{Answer}
 use Rattle.judge.specs.Answers.{answerRecord}

@@ -8,7 +8,9 @@ use lib.Signed.{_≤ℤ_}
 use Rattle.instant.specs.declared.Moment.the-variants.{At}
 use Rattle.instant.specs.declared.Time.{Time}
 use Rattle.instant.specs.Order.{_÷_}
-use Rattle.instant.specs.Lowest.{LowestTerms}
+use Rattle.instant.specs.declared.Instant.{Instant}
+use Rattle.instant.specs.Lowest.{LowestTerms, SizedTime}
+use Rattle.instant.proofs.LowestTerms as terms
 use Rattle.path.specs.declared.Limit.{Limit}
 use Rattle.path.specs.declared.Limit.the-variants.{Unlimited, Upto}
 use Rattle.path.specs.declared.SensedQuestion.{SensedQuestion}
@@ -53,13 +55,14 @@ SaysConflict (Clear sides) = ⊥
 SaysConflict (Conflict t) = Unit {0}
 SaysConflict (Conflicts t u) = Unit {0}
 
--- A time shown is a conflict time, the one that the rule picks, in lowest terms.
+-- A time shown is a conflict time, the one that the rule picks, in lowest terms, and "4 unsigned bytes each" hold its numbers.
 pub record Shown (side : Side) (s : SensedQuestion) (t : Time) : Type 0 where
   pub n : ℕ
   pub m : ℕ
   pub conflict : ConflictAt side s n m
   pub picked : Picks side s (At (n ÷ m))
   pub lowest : LowestTerms n m t
+  pub small : SizedTime t
 
 -- What is said besides "conflict": each time shown; and of a clear verdict, "naming the sides that have none". One-sided, a conflict has one time and clear
 -- names the lower side.
@@ -79,3 +82,7 @@ Said true s (Conflicts t u) = Shown Lower s t × Shown Upper s u
 pub record Demand3 (two : Bool) (s : SensedQuestion) (v : Verdict) : Type 0 where
   pub exactly : SaysConflict v ↔ ConflictOnEachSide two s
   pub said : Said two s v
+
+-- equal rational times are shown as one time
+pub one-time : (n m : ℕ) (t u : Time) → LowestTerms n m t → LowestTerms n m u → t ≡ u
+one-time = terms.lowest-unique

@@ -13,7 +13,7 @@ use Rattle.question.specs.Refusals.{twoSided, refusal}
 use Rattle.sensed.specs.Sensed.{sensedQuestion}
 use Rattle.verdict.specs.declared.Verdict.{Verdict}
 use Rattle.judge.specs.declared.Answer.{Answer}
-use Rattle.judge.specs.Answers.{AnswerRecord, answers}
+use Rattle.judge.specs.Answers.{AnswerRecord, answers, answerRecord}
 use Rattle.binding.specs.declared.JudgeResult.{JudgeResult}
 use Rattle.demands.specs.Demand2.{Demand2}
 use Rattle.demands.specs.Demand3.{Demand3}
@@ -40,3 +40,7 @@ valuesIn f = cond (eqb (f .kind) 66) (lowerNumbers f) (cond (eqb (f .kind) 67) (
 
 abbrev pub recordIn : JudgeResult → AnswerRecord
 recordIn f = answers (f .kind) (valuesIn f)
+
+-- its numbers are those of a right answer's record
+abbrev pub RightlyExported : Encounter → Settings → Question → JudgeResult → Type 0
+RightlyExported x y z out = (answer : Answer) × (recordIn out ≡ answerRecord answer) × RightlyAnswered x y z answer

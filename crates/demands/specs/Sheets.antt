@@ -10,7 +10,8 @@ use Rattle.advisory.specs.Catalogue.{Within}
 use Rattle.question.specs.declared.Encounter.{Encounter}
 use Rattle.question.specs.declared.Question.{Question}
 use Rattle.question.specs.declared.Checked.{Checked}
-use Rattle.question.specs.Refusals.{noLimit, encounterWithin, puckWithin, delayAccelerationWithin, firstRefusal}
+use Rattle.limits.specs.Limits.{noLimit}
+use Rattle.question.specs.Refusals.{encounterWithin, puckWithin, delayAccelerationWithin, firstRefusal}
 use Rattle.coded.specs.declared.CodedQuestion.{CodedQuestion}
 use Rattle.coded.specs.Coded.{codedQuestion}
 use Rattle.judge.specs.declared.Answer.{Answer}

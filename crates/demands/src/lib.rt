@@ -1,11 +1,8 @@
 // The customer's demands of every entry. Each function only calls an entry, and its contract is what the demands ask of that entry's result: the checker
 // proves here that the entry's own contract gives it. `specs/` has the demands in the customer's words; demands that no entry answers stand there with their proofs.
-ghost use mathlib.Core.Path.{_≡_};
 ghost use lib.ListN.{take};
-ghost use Rattle.judge.specs.declared.Answer.{Answer};
-ghost use Rattle.judge.specs.Answers.{answerRecord};
 ghost use Rattle.binding.specs.PlainNumbers.{plainEncounter, plainSettings, plainQuestion};
-ghost use Rattle.demands.specs.PlainAnswer.{RightlyAnswered, recordIn};
+ghost use Rattle.demands.specs.PlainAnswer.{RightlyAnswered, RightlyExported};
 ghost use Rattle.demands.specs.Sheets.{SheetAnswered, outcomeIn};
 ghost use Rattle.demands.specs.Program.{Written};
 use binding::JudgeResult;
@@ -48,7 +45,7 @@ pub fn judge_plain_demanded(
     delay: i64,
     limit: i64,
 ) -> JudgeResult
-    ensures { λ out. ⌜ (a : Answer) × (recordIn out ≡ answerRecord a) × RightlyAnswered (plainEncounter r h c v vi) (plainSettings p k e) (plainQuestion sides sense target «upper_target» strength «upper_strength» delay limit) a ⌝ }
+    ensures { λ out. ⌜ RightlyExported (plainEncounter r h c v vi) (plainSettings p k e) (plainQuestion sides sense target «upper_target» strength «upper_strength» delay limit) out ⌝ }
 {
     judge_plain(
         r,

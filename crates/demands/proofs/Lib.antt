@@ -1,0 +1,5 @@
+pub mod PlainAnswers
+pub mod SheetAnswers
+pub mod ProgramWrites
+pub mod Exported
+pub mod MarkedExamples
