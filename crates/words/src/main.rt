@@ -86,8 +86,8 @@ fn write_time(text: &[u8], time: Time) {
     write(b" s");
 }
 
-// What each refusal means.
-fn write_meaning(number: u8) {
+// What the refusal of a record means.
+fn write_record_refusal(number: u8) {
     match number {
         1 => write(b"an encounter field is outside its limits"),
         2 => write(b"the puck's radius or half height is outside its limits"),
@@ -102,18 +102,19 @@ fn write_meaning(number: u8) {
         7 => write(b"no encounter was accepted before the question"),
         8 => write(b"the code is not one of 1 to 18"),
         9 => write(b"codes 17 and 18 have a name and are not judged"),
+        _ => {}
+    }
+}
+
+// What the refusal of a sheet means.
+fn write_sheet_refusal(number: u8) {
+    match number {
         10 => write(b"it is longer than 8192 bytes"),
         11 => write(b"a record has an unknown kind"),
         12 => write(b"a record is cut short"),
         13 => write(b"the answer area is shorter than the answer"),
-        _ => write(b"a number without a meaning"),
+        _ => {}
     }
-}
-
-fn write_refusal(text: &[u8], number: u8) {
-    write_number(text, number as u64);
-    write(b": ");
-    write_meaning(number);
 }
 
 fn write_sides(sides: ClearSides) {
@@ -138,7 +139,11 @@ fn write_verdict(verdict: Verdict) {
 fn write_answer(answer: Answer) {
     match answer {
         Answer::Judged(verdict) => write_verdict(verdict),
-        Answer::Refused(number) => write_refusal(b"refused, ", number),
+        Answer::Refused(number) => {
+            write_number(b"refused, ", number as u64);
+            write(b": ");
+            write_record_refusal(number);
+        }
     }
 }
 
@@ -164,28 +169,42 @@ fn write_limit(limit: i64) {
     write(b" s");
 }
 
-// The catalogue's names; codes outside it have none.
-fn write_code_name(code: u8) {
+fn write_odd_name(code: u8) {
     match code {
         1 => write(b" DNC2000"),
-        2 => write(b" DND2000"),
         3 => write(b" DNC1000"),
-        4 => write(b" DND1000"),
         5 => write(b" DNC500"),
-        6 => write(b" DND500"),
         7 => write(b" DNC"),
-        8 => write(b" DND"),
         9 => write(b" MDES"),
-        10 => write(b" MCL"),
         11 => write(b" DES1500"),
-        12 => write(b" CL1500"),
         13 => write(b" SDES1500"),
-        14 => write(b" SCL1500"),
         15 => write(b" SDES2500"),
-        16 => write(b" SCL2500"),
         17 => write(b" COC"),
+        _ => {}
+    }
+}
+
+fn write_even_name(code: u8) {
+    match code {
+        2 => write(b" DND2000"),
+        4 => write(b" DND1000"),
+        6 => write(b" DND500"),
+        8 => write(b" DND"),
+        10 => write(b" MCL"),
+        12 => write(b" CL1500"),
+        14 => write(b" SCL1500"),
+        16 => write(b" SCL2500"),
         18 => write(b" MTLO"),
         _ => {}
+    }
+}
+
+// The catalogue's names; codes outside it have none. Two lists: a match costs the square of its arms to check.
+fn write_code_name(code: u8) {
+    if code % 2 == 0 {
+        write_even_name(code);
+    } else {
+        write_odd_name(code);
     }
 }
 
@@ -459,7 +478,9 @@ fn write_first_fault(sheet: &[u8]) {
 }
 
 fn write_refused_sheet(sheet: &[u8], number: u8) {
-    write_refusal(b"sheet refused, ", number);
+    write_number(b"sheet refused, ", number as u64);
+    write(b": ");
+    write_sheet_refusal(number);
     write(b"\n");
     if number != 10 {
         write_first_fault(sheet);
