@@ -1,15 +1,15 @@
 -- Demand 3: "The verdict is 'conflict' exactly if a rational conflict time exists (two-sided: on each side); each time shown is one and is the one that document
 -- 01's rule picks; 'conflict time' is defined by the paths alone."
+use mathlib.Core.Path.{_≡_}
 use mathlib.Core.Bool.{Bool, true, false}
 use mathlib.Core.Logic.{_↔_}
-use Prim.Native.Nat.{ℕ, _*_, _≤_}
+use Prim.Native.Nat.{ℕ, _*_, _≤_, _<_}
 use lib.IntN.{pos, _+ℤ_, _-ℤ_, _*ℤ_, natAbs}
 use lib.Signed.{_≤ℤ_}
 use Rattle.instant.specs.declared.Moment.the-variants.{At}
 use Rattle.instant.specs.declared.Time.{Time}
-use Rattle.instant.specs.Order.{_÷_}
-use Rattle.instant.specs.declared.Instant.{Instant}
-use Rattle.instant.specs.Lowest.{LowestTerms, SizedTime}
+use Rattle.instant.specs.Order.{_÷_, _≈_}
+use Rattle.instant.specs.Lowest.{LowestTerms, SizedTime, lowest}
 use Rattle.instant.proofs.LowestTerms as terms
 use Rattle.path.specs.declared.Limit.{Limit}
 use Rattle.path.specs.declared.Limit.the-variants.{Unlimited, Upto}
@@ -83,6 +83,6 @@ pub record Demand3 (two : Bool) (s : SensedQuestion) (v : Verdict) : Type 0 wher
   pub exactly : SaysConflict v ↔ ConflictOnEachSide two s
   pub said : Said two s v
 
--- equal rational times are shown as one time
-pub one-time : (n m : ℕ) (t u : Time) → LowestTerms n m t → LowestTerms n m u → t ≡ u
-one-time = terms.lowest-unique
+-- Equal rational times, and only these, are shown as one time.
+pub one-time : (n m n′ m′ : ℕ) → 0 < m → 0 < m′ → (lowest n m ≡ lowest n′ m′) ↔ (n ÷ m ≈ n′ ÷ m′)
+one-time = terms.lowest-same

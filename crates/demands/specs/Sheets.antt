@@ -2,7 +2,7 @@
 use mathlib.Core.Path.{_≡_}
 use mathlib.Core.Bool.{cond, false}
 use mathlib.Core.List.{List, _∷_, _++_}
-use Prim.Native.Nat.{ℕ, _<_, _≤_}
+use Prim.Native.Nat.{ℕ, _^_, _<_, _≤_}
 use lib.Dec.{eqb}
 use lib.IntN.{ℤ}
 use lib.ListN.{length, drop}
@@ -20,7 +20,9 @@ use Rattle.record.specs.declared.Record.{Record}
 use Rattle.record.specs.Records.{records}
 use Rattle.record.specs.SheetCheck.{longestSheet, faultAfter, sheetCheck}
 use Rattle.reply.specs.declared.Reply.the-variants.{Answered}
-use Rattle.reply.specs.AnswerBytes.{recordBytes}
+use Rattle.record.specs.Numbers.{wordAt}
+use Rattle.reply.specs.AnswerBytes.{recordBytes, bigEndian}
+use Rattle.reply.proofs.NumbersExact as exact
 use Rattle.answering.specs.declared.LastEncounter.the-variants.{Present}
 use Rattle.answering.specs.declared.State.{State}
 use Rattle.answering.specs.States as states
@@ -100,3 +102,7 @@ stored-within = stored.stored-within
 -- ---- "Whole example, hex."
 pub whole-example : (sheetCheck exampleSheet ≡ Checked.Accepted) × (sheetAnswer exampleSheet ≡ exampleAnswer)
 whole-example = (example.example-accepted, example.example-answer)
+
+-- ---- "4 unsigned bytes each": such a number is read back as itself
+pub read-back : (n : ℕ) → n < 2 ^ 32 → wordAt (bigEndian n) 0 ≡ n
+read-back = exact.read-back

@@ -2,7 +2,6 @@ pub mod KeptBytes
 pub mod AnswersAhead
 pub mod AnswerBound
 pub mod RecordsInOrder
-pub mod PlainAnswers
 pub mod WholeSheetRefusals
 pub mod OutcomeRecords
 pub mod ExampleHolds
