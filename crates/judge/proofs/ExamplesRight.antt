@@ -16,11 +16,11 @@ use Rattle.question.specs.Refusals.{refusal}
 use Rattle.question.specs.StartingSettings.{startingSettings}
 use Rattle.coded.specs.declared.CodedQuestion.{CodedQuestion}
 use Rattle.coded.specs.Coded.{codedQuestion}
 use Rattle.judge.specs.Answers.{AnswerRecord, answer, answerRecord}
 use Rattle.judge.specs.Examples.{Example, examples, answerTo, answered}
 use Rattle.judge.proofs.ExamplesHold.{examples-hold}
-use Rattle.demands.specs.Marked.{Proved, AllProved}
-use Rattle.demands.proofs.PlainAnswers.{judged-as}
+use Rattle.judge.specs.Marked.{Proved}
+use Rattle.judge.proofs.Demand3.{demand-3}
 
 -- two maps that agree on a list agree at each of its members
 at-each : {A : Type 0} (f g : Example → A) (l : List Example) → map f l ≡ map g l → (m : Example) → Among m l → f m ≡ g m
@@ -40,10 +40,10 @@ unfolding examples refusal codedQuestion advisedOf catalogueOf articleEntries no
 examples-accepted = refl
 
 proved : (m : Example) (q : CodedQuestion) → m .question ≡ q → checked (m .encounter) q ≡ Checked.Accepted → answerRecord (answerTo (m .encounter) startingSettings q) ≡ m .answer → Proved m
-proved m (CodedQuestion.Asked z) asked accepted answered = record { question = z; asked = asked; accepted = accepted; answered = answered; right = judged-as (m .encounter) startingSettings z accepted }
+proved m (CodedQuestion.Asked z) asked accepted answered = record { question = z; asked = asked; accepted = accepted; answered = answered; right = demand-3 (m .encounter) startingSettings z accepted (answer (m .encounter) startingSettings z) refl }
 proved m (CodedQuestion.Refused n) asked accepted answered = absurd (let z : _≡_ {A = ℕ} 0 1 = cc in omega arith)
 
-pub all-proved : AllProved
+pub all-proved : (m : Example) → Among m examples → Proved m
 all-proved m h =
     proved m (m .question) refl
     (at-each (λ (m : Example). checked (m .encounter) (m .question)) (λ (m : Example). Checked.Accepted) examples examples-accepted m h)
