@@ -1,5 +1,5 @@
--- What the steps of the code know and give: which instants have been tried without a conflict, where the path is lowest, and the first whole second by
--- its height alone.
+-- Definitions that only inner contracts use; an instructor need not read them. What the steps of the code know and give: which instants have been tried
+-- without a conflict, where the path is lowest, and the first whole second by its height alone.
 use mathlib.Core.Path.{_≡_}
 use mathlib.Core.Bool.{true, false, cond}
 use Rattle.instant.specs.declared.Instant.{Instant}
