@@ -12,4 +12,6 @@ pub mod generate;
 pub mod independent;
 pub mod motion;
 pub mod rattle;
+pub mod rows;
 pub mod sheet;
+pub mod worked;

@@ -83,7 +83,7 @@ fn main() -> ExitCode {
     let began = Instant::now();
     let mut tally = Tally::default();
     check::examples(&mut tally);
-    for group in examples::worked() {
+    for group in worked::groups() {
         for (name, q) in group.cases {
             question(&mut tally, || name.clone(), &q, JudgeResult::of(&judge(&q)));
         }

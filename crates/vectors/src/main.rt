@@ -1,13 +1,12 @@
-// Judges the cases in each file that an argument names. Of each it writes the number of cases, of answers that differ from those in the file, and of answers of each kind.
+// Judges the cases in each file that an argument names. Of each it writes the file's name and first line, which says in words what the cases are, and then the number of
+// cases, of answers that differ from those in the file, and of answers of each kind.
 // `cargo run --profile checked --bin vectors ../crates/vectors`, run in `compare/`, writes the files, `args` and `stdout`: the answers are the independent implementation's.
-// A file's name has the number of its first case.
-ghost use mathlib.Core.Path.{_≡_};
-ghost use Prim.Native.Nat.{_+_, _≤_, _<_};
+// The program is proved safe. That it sees a difference is shown by the file `planted`, whose answers are wrong.
+ghost use Prim.Native.Nat.{_+_, _≤_};
 ghost use lib.ListN.{length};
-ghost use Rattle.judge.specs.Answers.{answerRecord};
-ghost use Rattle.judge.specs.declared.Answer.the-variants.{Judged};
-ghost use Rattle.vectors.specs.Cases.{signed, numberAt, encounterIn, settingsIn, questionIn, recordNumbers, expectedNumbers, sameNumbers, tried};
-ghost use Rattle.vectors.specs.Reports.{oneIf, AtMost, noCases, counted, reportOn};
+ghost use Rattle.io.specs.Counts.{Counts};
+use coded::CodedQuestion;
+use coded::coded_question;
 use judge::Answer;
 use judge::judge;
 use judge::sides_number;
@@ -20,8 +19,13 @@ use verdict::Verdict;
 
 const STANDARD_OUTPUT: i32 = 1;
 
-// Sixteen numbers of 8 bytes, the kind of the expected answer, and its six numbers of 4 bytes.
-const CASE: usize = 153;
+const LINE_END: u8 = 10;
+
+// Sixteen numbers of 8 bytes; a byte that is 0 where they are a free question, else 1, and the code; the kind of the expected answer, and its six numbers of 4 bytes.
+const CASE: usize = 155;
+
+// 512 cases, and a first line of 640 bytes.
+const ROOM: usize = 80000;
 
 // The kind of the judge's answer, and whether that is not the expected one.
 struct Tried {
@@ -41,29 +45,21 @@ struct Report {
     refused: u64,
 }
 
-// Two's complement.
-fn signed(n: u64) -> i64
-    ensures { λ r. ⌜ r ≡ signed n ⌝ }
-{
-    if n < 9223372036854775808 {
-        return n as i64;
-    }
-    -1 - (u64::MAX - n) as i64
-}
-
-// The eight bytes at a position.
+// The eight bytes at a position, in two's complement.
 fn number_at(bytes: &[u8], at: usize) -> i64
     requires { ⌜ at + 8 ≤ length (now bytes) ⌝ }
-    ensures { λ r. ⌜ r ≡ numberAt (now (bytes .entry)) at ⌝ }
 {
     let high = word_at(bytes, at);
     let low = word_at(bytes, at + 4);
-    signed(high * 4294967296 + low)
+    let n = high * 4294967296 + low;
+    if n < 9223372036854775808 {
+        return n as i64;
+    }
+    !((u64::MAX - n) as i64)
 }
 
 fn encounter_in(case: &[u8]) -> Encounter
-    requires { ⌜ 153 ≤ length (now case) ⌝ }
-    ensures { λ r. ⌜ r ≡ encounterIn (now (case .entry)) ⌝ }
+    requires { ⌜ 155 ≤ length (now case) ⌝ }
 {
     Encounter {
         distance: number_at(case, 0),
@@ -75,8 +71,7 @@ fn encounter_in(case: &[u8]) -> Encounter
 }
 
 fn settings_in(case: &[u8]) -> Settings
-    requires { ⌜ 153 ≤ length (now case) ⌝ }
-    ensures { λ r. ⌜ r ≡ settingsIn (now (case .entry)) ⌝ }
+    requires { ⌜ 155 ≤ length (now case) ⌝ }
 {
     Settings {
         radius: number_at(case, 40),
@@ -86,8 +81,7 @@ fn settings_in(case: &[u8]) -> Settings
 }
 
 fn question_in(case: &[u8]) -> Question
-    requires { ⌜ 153 ≤ length (now case) ⌝ }
-    ensures { λ r. ⌜ r ≡ questionIn (now (case .entry)) ⌝ }
+    requires { ⌜ 155 ≤ length (now case) ⌝ }
 {
     Question {
         sides: number_at(case, 64),
@@ -101,25 +95,42 @@ fn question_in(case: &[u8]) -> Question
     }
 }
 
+// The question, or the refusal of its code.
+fn asked(case: &[u8]) -> CodedQuestion
+    requires { ⌜ 155 ≤ length (now case) ⌝ }
+{
+    if case[128] == 0 {
+        return CodedQuestion::Asked(question_in(case));
+    }
+    coded_question(case[129], number_at(case, 24), number_at(case, 120))
+}
+
+fn answer_to(case: &[u8]) -> Answer
+    requires { ⌜ 155 ≤ length (now case) ⌝ }
+{
+    let question = asked(case);
+    match question {
+        CodedQuestion::Asked(free) => judge(encounter_in(case), settings_in(case), free),
+        CodedQuestion::Refused(number) => Answer::Refused(number),
+    }
+}
+
 // The expected kind and numbers.
 fn expected_numbers(case: &[u8]) -> [u64; 7]
-    requires { ⌜ 153 ≤ length (now case) ⌝ }
-    ensures { λ r. ⌜ r ≡ expectedNumbers (now (case .entry)) ⌝ }
+    requires { ⌜ 155 ≤ length (now case) ⌝ }
 {
     [
-        wide(case[128]),
-        word_at(case, 129),
-        word_at(case, 133),
-        word_at(case, 137),
-        word_at(case, 141),
-        word_at(case, 145),
-        word_at(case, 149),
+        wide(case[130]),
+        word_at(case, 131),
+        word_at(case, 135),
+        word_at(case, 139),
+        word_at(case, 143),
+        word_at(case, 147),
+        word_at(case, 151),
     ]
 }
 
-fn verdict_numbers(verdict: Verdict) -> [u64; 7]
-    ensures { λ r. ⌜ r ≡ recordNumbers (answerRecord (Judged verdict)) ⌝ }
-{
+fn verdict_numbers(verdict: Verdict) -> [u64; 7] {
     match verdict {
         Verdict::Clear(sides) => {
             let number = sides_number(sides) as u64;
@@ -139,52 +150,36 @@ fn verdict_numbers(verdict: Verdict) -> [u64; 7]
 }
 
 // An answer's kind and six numbers, 0 where it has fewer.
-fn answer_numbers(answer: Answer) -> [u64; 7]
-    ensures { λ r. ⌜ r ≡ recordNumbers (answerRecord answer) ⌝ }
-{
+fn answer_numbers(answer: Answer) -> [u64; 7] {
     match answer {
         Answer::Judged(verdict) => verdict_numbers(verdict),
         Answer::Refused(number) => [68, number as u64, 0, 0, 0, 0, 0],
     }
 }
 
-// The proof does not get an array's length from a reference to it, so the contract asks for it.
-fn same_numbers(a: &[u64; 7], b: &[u64; 7]) -> bool
-    requires { ⌜ (length (now a) ≡ 7) × (length (now b) ≡ 7) ⌝ }
-    ensures { λ r. ⌜ r ≡ sameNumbers (now (a .entry)) (now (b .entry)) ⌝ }
-{
-    let mut i: usize = 0;
-    while i < 7 {
-        if a[i] != b[i] {
-            return false;
-        }
-        i = i + 1;
-    }
-    true
+fn same_numbers(a: [u64; 7], b: [u64; 7]) -> bool {
+    (a[0] == b[0])
+        & (a[1] == b[1])
+        & (a[2] == b[2])
+        & (a[3] == b[3])
+        & (a[4] == b[4])
+        & (a[5] == b[5])
+        & (a[6] == b[6])
 }
 
 // Judges the case at the start of the bytes.
 fn try_case(bytes: &[u8]) -> Tried
-    requires { ⌜ 153 ≤ length (now bytes) ⌝ }
-    ensures { λ r. ⌜ r ≡ tried (now (bytes .entry)) ⌝ }
+    requires { ⌜ 155 ≤ length (now bytes) ⌝ }
 {
-    let found = answer_numbers(judge(encounter_in(bytes), settings_in(bytes), question_in(bytes)));
+    let found = answer_numbers(answer_to(bytes));
     let expected = expected_numbers(bytes);
     Tried {
         kind: found[0],
-        differs: !same_numbers(&found, &expected),
+        differs: !same_numbers(found, expected),
     }
 }
 
-fn one_if(b: bool) -> u64
-    ensures { λ r. ⌜ (r ≡ oneIf b) × (r ≤ 1) ⌝ }
-{
-    if b { 1 } else { 0 }
-}
-
-fn no_cases() -> Report
-    ensures { λ r. ⌜ r ≡ noCases ⌝ }
-{
+fn no_cases() -> Report {
     Report {
         cases: 0,
         differences: 0,
@@ -196,27 +191,30 @@ fn no_cases() -> Report
     }
 }
 
-fn counted(report: Report, tried: Tried) -> Report
-    requires { ⌜ AtMost 9223372036854775807 report ⌝ }
-    ensures { λ r. ⌜ r ≡ counted report tried ⌝ }
-{
+// One more if it is so. A file has far fewer cases than would make a count start again.
+fn more_if(n: u64, so: bool) -> u64 {
+    if so {
+        return std::num::wrapping_add_u64(n, 1);
+    }
+    n
+}
+
+fn counted(report: Report, tried: Tried) -> Report {
     let kind = tried.kind;
-    let differences = report.differences + one_if(tried.differs);
+    let differences = more_if(report.differences, tried.differs);
     Report {
-        cases: report.cases + 1,
+        cases: more_if(report.cases, true),
         differences: differences,
-        agreeing: report.agreeing + one_if(differences == 0),
-        clear: report.clear + one_if(kind == 65),
-        conflict: report.conflict + one_if(kind == 66),
-        conflicts: report.conflicts + one_if(kind == 67),
-        refused: report.refused + one_if(kind == 68),
+        agreeing: more_if(report.agreeing, differences == 0),
+        clear: more_if(report.clear, kind == 65),
+        conflict: more_if(report.conflict, kind == 66),
+        conflicts: more_if(report.conflicts, kind == 67),
+        refused: more_if(report.refused, kind == 68),
     }
 }
 
 // Judges all whole cases.
-fn report_on(bytes: &[u8]) -> Report
-    ensures { λ r. ⌜ r ≡ reportOn (now (bytes .entry)) ⌝ }
-{
+fn report_on(bytes: &[u8]) -> Report {
     let cases = bytes.len() / CASE;
     let mut report = no_cases();
     let mut i: usize = 0;
@@ -238,7 +236,7 @@ fn write_number(text: &[u8], n: u64) {
 }
 
 fn write_report(report: Report) {
-    write_number(b": cases ", report.cases);
+    write_number(b"  cases ", report.cases);
     write_number(b", differences ", report.differences);
     if 0 < report.differences {
         write_number(b", the first in case ", report.agreeing);
@@ -249,28 +247,49 @@ fn write_report(report: Report) {
     write_number(b", 68 ", report.refused);
 }
 
-// A file of more than 512 cases leaves a rest too: its next byte.
-fn report_file(file: i32) {
-    let mut bytes = [0u8; 78337];
-    let length = io::read_full(file, &mut bytes);
-    write_report(report_on(&bytes[..length]));
-    let rest = length % CASE;
+// The first line's length, with its end.
+fn first_line(bytes: &[u8]) -> usize
+    ensures { λ r. ⌜ Counts r (now (bytes .entry)) ⌝ }
+{
+    let mut i: usize = 0;
+    while i < bytes.len() {
+        if bytes[i] == LINE_END {
+            return i + 1;
+        }
+        i = i + 1;
+    }
+    i
+}
+
+fn report_bytes(bytes: &[u8]) {
+    let start = first_line(bytes);
+    write(&bytes[..start]);
+    let cases = &bytes[start..];
+    write_report(report_on(cases));
+    let rest = cases.len() % CASE;
     if 0 < rest {
         write_number(b"; bytes left over ", rest as u64);
     }
+    write(b"\n");
+}
+
+fn report_file(file: i32) {
+    let mut room = [0u8; ROOM];
+    let length = io::read_full(file, &mut room);
+    report_bytes(&room[..length]);
 }
 
 fn report_argument(k: usize) {
     let mut name = io::buffer();
     let length = os::arg(k, &mut name);
+    write(&name[..length]);
     let file = os::open_read(&name[..length]);
     if file < 0 {
-        os::fail(&name[..length]);
+        write(b": cannot be read\n");
         return;
     }
-    write(&name[..length]);
+    write(b": ");
     report_file(file);
-    write(b"\n");
     libc::close(file);
 }
 
