@@ -251,6 +251,11 @@ pub fn answer_bytes(sheet: &[u8]) -> Result<Vec<u8>, u8> {
     Ok(bytes)
 }
 
+/// What the program writes: the whole answer, or kind 69 and the refusal.
+pub fn program_bytes(sheet: &[u8]) -> Vec<u8> {
+    answer_bytes(sheet).unwrap_or_else(|number| vec![69, number])
+}
+
 /// Writes the whole answer to the front of the area and gives its length, or gives the refusal, 10
 /// to 13, and changes no byte.
 pub fn answer_into(sheet: &[u8], area: &mut [u8]) -> Result<usize, u8> {

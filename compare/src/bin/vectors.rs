@@ -3,10 +3,10 @@
 //! each group; generated ones, 512 to a file, case i being the generator's question i of seed 2026; and
 //! wrong files, which show that the program sees what is wrong.
 //!
-//! A file is a line of words and then its cases, 155 bytes each: the sixteen plain numbers, 8 bytes each,
-//! big-endian two's complement; 1 byte, 0 for a free question and 1 for one by code, and 1 byte, the code;
-//! 1 byte, the kind of the answer; its six numbers, 4 bytes each, big-endian, those that the kind does not
-//! use 0 (kind 65: the sides first; kind 68: the refusal first).
+//! A file is a line of words and then its cases, 25 numbers of 8 bytes each, big-endian, negative ones in
+//! two's complement: the sixteen plain numbers; 0 for a free question or 1 for one by code, and the code;
+//! the kind of the answer, and its six numbers, those that the kind does not use 0 (kind 65: the sides
+//! first; kind 68: the refusal first).
 //!
 //! vectors SEED COUNT: the generator's first COUNT questions with their answers as lines: the sixteen
 //! plain numbers, ->, the kind and the six numbers of the answer.
@@ -19,29 +19,24 @@ use compare::examples::{BASE, TWO};
 use compare::generate;
 use compare::independent::{Accepted, Answer, Moment, Question, Time, judge};
 use compare::worked::{self, Case};
-use std::fmt::Write as _;
 use std::fs;
-use std::io::{self, Write as _};
+use std::io::{self, Write};
 use std::path::Path;
 use std::process::ExitCode;
 
-const CASE: usize = 155;
+const CASE: usize = 200;
 const SEED: u64 = 2026;
 const FILES: u64 = 8;
 const CASES_IN_FILE: u64 = 512;
 
 fn case(case: &Case, answer: &Answer) -> [u8; CASE] {
-    let mut bytes = Vec::with_capacity(CASE);
-    for n in case.question.numbers() {
-        bytes.extend_from_slice(&n.to_be_bytes());
-    }
-    bytes.push(u8::from(case.code.is_some()));
-    bytes.push(case.code.unwrap_or(0));
-    bytes.push(answer.kind());
-    for n in answer.numbers() {
-        bytes.extend_from_slice(&n.to_be_bytes());
-    }
-    bytes.try_into().unwrap()
+    let mut numbers = case.question.numbers().to_vec();
+    numbers.push(i64::from(case.code.is_some()));
+    numbers.push(i64::from(case.code.unwrap_or(0)));
+    numbers.push(i64::from(answer.kind()));
+    numbers.extend(answer.numbers().map(i64::from));
+    let bytes: Vec<u8> = numbers.into_iter().flat_map(i64::to_be_bytes).collect();
+    bytes.try_into().expect("25 numbers")
 }
 
 fn searched(shown: Option<(Ratio, Moment)>) -> bool {
@@ -113,22 +108,16 @@ impl File {
                 wrong.push(i);
             }
         }
-        let mut text = format!("{}: {}\n", self.name, self.about);
         let (cases, differences) = (self.cases.len(), wrong.len());
-        write!(text, "  cases {cases}, differences {differences}").unwrap();
-        if let Some(first) = wrong.first() {
-            write!(text, ", the first in case {first}").unwrap();
-        }
+        let agreeing = wrong.first().unwrap_or(&cases);
         let [clear, conflict, conflicts, refused] = kinds;
-        write!(
-            text,
-            "; kind 65 {clear}, 66 {conflict}, 67 {conflicts}, 68 {refused}"
+        format!(
+            "{}: {}\n  cases {cases}, differences {differences} after {agreeing} that agree; \
+             kind 65 {clear}, 66 {conflict}, 67 {conflicts}, 68 {refused}; bytes left over {}\n",
+            self.name,
+            self.about,
+            self.rest.len(),
         )
-        .unwrap();
-        if !self.rest.is_empty() {
-            write!(text, "; bytes left over {}", self.rest.len()).unwrap();
-        }
-        text + "\n"
     }
 }
 

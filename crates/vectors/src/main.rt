@@ -13,7 +13,6 @@ use judge::sides_number;
 use question::Encounter;
 use question::Question;
 use question::Settings;
-use record::wide;
 use record::word_at;
 use verdict::Verdict;
 
@@ -21,16 +20,21 @@ const STANDARD_OUTPUT: i32 = 1;
 
 const LINE_END: u8 = 10;
 
-// Sixteen numbers of 8 bytes; a byte that is 0 where they are a free question, else 1, and the code; the kind of the expected answer, and its six numbers of 4 bytes.
-const CASE: usize = 155;
+// Numbers of 8 bytes: the sixteen of the question; 0 where they are a free question, else 1, and the code; the kind of the expected answer, and its six numbers.
+const CASE: usize = 200;
 
-// 512 cases, and a first line of 640 bytes.
-const ROOM: usize = 80000;
+// 512 cases, and a first line of 600 bytes.
+const ROOM: usize = 103000;
 
-// The kind of the judge's answer, and whether that is not the expected one.
-struct Tried {
+// An answer's kind and its numbers, 0 where it has fewer than six.
+struct Numbers {
     kind: u64,
-    differs: bool,
+    first: u64,
+    second: u64,
+    third: u64,
+    fourth: u64,
+    fifth: u64,
+    sixth: u64,
 }
 
 struct Report {
@@ -45,13 +49,20 @@ struct Report {
     refused: u64,
 }
 
-// The eight bytes at a position, in two's complement.
-fn number_at(bytes: &[u8], at: usize) -> i64
+// The eight bytes at a position, unsigned.
+fn natural_at(bytes: &[u8], at: usize) -> u64
     requires { ⌜ at + 8 ≤ length (now bytes) ⌝ }
 {
     let high = word_at(bytes, at);
     let low = word_at(bytes, at + 4);
-    let n = high * 4294967296 + low;
+    high * 4294967296 + low
+}
+
+// The eight bytes at a position, in two's complement.
+fn number_at(bytes: &[u8], at: usize) -> i64
+    requires { ⌜ at + 8 ≤ length (now bytes) ⌝ }
+{
+    let n = natural_at(bytes, at);
     if n < 9223372036854775808 {
         return n as i64;
     }
@@ -59,7 +70,7 @@ fn number_at(bytes: &[u8], at: usize) -> i64
 }
 
 fn encounter_in(case: &[u8]) -> Encounter
-    requires { ⌜ 155 ≤ length (now case) ⌝ }
+    requires { ⌜ 200 ≤ length (now case) ⌝ }
 {
     Encounter {
         distance: number_at(case, 0),
@@ -71,7 +82,7 @@ fn encounter_in(case: &[u8]) -> Encounter
 }
 
 fn settings_in(case: &[u8]) -> Settings
-    requires { ⌜ 155 ≤ length (now case) ⌝ }
+    requires { ⌜ 200 ≤ length (now case) ⌝ }
 {
     Settings {
         radius: number_at(case, 40),
@@ -81,7 +92,7 @@ fn settings_in(case: &[u8]) -> Settings
 }
 
 fn question_in(case: &[u8]) -> Question
-    requires { ⌜ 155 ≤ length (now case) ⌝ }
+    requires { ⌜ 200 ≤ length (now case) ⌝ }
 {
     Question {
         sides: number_at(case, 64),
@@ -97,16 +108,16 @@ fn question_in(case: &[u8]) -> Question
 
 // The question, or the refusal of its code.
 fn asked(case: &[u8]) -> CodedQuestion
-    requires { ⌜ 155 ≤ length (now case) ⌝ }
+    requires { ⌜ 200 ≤ length (now case) ⌝ }
 {
-    if case[128] == 0 {
+    if natural_at(case, 128) == 0 {
         return CodedQuestion::Asked(question_in(case));
     }
-    coded_question(case[129], number_at(case, 24), number_at(case, 120))
+    coded_question(case[143], number_at(case, 24), number_at(case, 120))
 }
 
 fn answer_to(case: &[u8]) -> Answer
-    requires { ⌜ 155 ≤ length (now case) ⌝ }
+    requires { ⌜ 200 ≤ length (now case) ⌝ }
 {
     let question = asked(case);
     match question {
@@ -115,80 +126,71 @@ fn answer_to(case: &[u8]) -> Answer
     }
 }
 
-// The expected kind and numbers.
-fn expected_numbers(case: &[u8]) -> [u64; 7]
-    requires { ⌜ 155 ≤ length (now case) ⌝ }
+fn expected(case: &[u8]) -> Numbers
+    requires { ⌜ 200 ≤ length (now case) ⌝ }
 {
-    [
-        wide(case[130]),
-        word_at(case, 131),
-        word_at(case, 135),
-        word_at(case, 139),
-        word_at(case, 143),
-        word_at(case, 147),
-        word_at(case, 151),
-    ]
-}
-
-fn verdict_numbers(verdict: Verdict) -> [u64; 7] {
-    match verdict {
-        Verdict::Clear(sides) => {
-            let number = sides_number(sides) as u64;
-            [65, number, 0, 0, 0, 0, 0]
-        }
-        Verdict::Conflict(t) => [66, t.seconds, t.remainder, t.divisor, 0, 0, 0],
-        Verdict::Conflicts(t, u) => [
-            67,
-            t.seconds,
-            t.remainder,
-            t.divisor,
-            u.seconds,
-            u.remainder,
-            u.divisor,
-        ],
+    Numbers {
+        kind: natural_at(case, 144),
+        first: natural_at(case, 152),
+        second: natural_at(case, 160),
+        third: natural_at(case, 168),
+        fourth: natural_at(case, 176),
+        fifth: natural_at(case, 184),
+        sixth: natural_at(case, 192),
     }
 }
 
-// An answer's kind and six numbers, 0 where it has fewer.
-fn answer_numbers(answer: Answer) -> [u64; 7] {
+fn one_number(kind: u64, number: u8) -> Numbers {
+    Numbers {
+        kind: kind,
+        first: number as u64,
+        second: 0,
+        third: 0,
+        fourth: 0,
+        fifth: 0,
+        sixth: 0,
+    }
+}
+
+fn verdict_numbers(verdict: Verdict) -> Numbers {
+    match verdict {
+        Verdict::Clear(sides) => one_number(65, sides_number(sides)),
+        Verdict::Conflict(t) => Numbers {
+            kind: 66,
+            first: t.seconds,
+            second: t.remainder,
+            third: t.divisor,
+            fourth: 0,
+            fifth: 0,
+            sixth: 0,
+        },
+        Verdict::Conflicts(t, u) => Numbers {
+            kind: 67,
+            first: t.seconds,
+            second: t.remainder,
+            third: t.divisor,
+            fourth: u.seconds,
+            fifth: u.remainder,
+            sixth: u.divisor,
+        },
+    }
+}
+
+fn answer_numbers(answer: Answer) -> Numbers {
     match answer {
         Answer::Judged(verdict) => verdict_numbers(verdict),
-        Answer::Refused(number) => [68, number as u64, 0, 0, 0, 0, 0],
+        Answer::Refused(number) => one_number(68, number),
     }
 }
 
-fn same_numbers(a: [u64; 7], b: [u64; 7]) -> bool {
-    (a[0] == b[0])
-        & (a[1] == b[1])
-        & (a[2] == b[2])
-        & (a[3] == b[3])
-        & (a[4] == b[4])
-        & (a[5] == b[5])
-        & (a[6] == b[6])
-}
-
-// Judges the case at the start of the bytes.
-fn try_case(bytes: &[u8]) -> Tried
-    requires { ⌜ 155 ≤ length (now bytes) ⌝ }
-{
-    let found = answer_numbers(answer_to(bytes));
-    let expected = expected_numbers(bytes);
-    Tried {
-        kind: found[0],
-        differs: !same_numbers(found, expected),
-    }
-}
-
-fn no_cases() -> Report {
-    Report {
-        cases: 0,
-        differences: 0,
-        agreeing: 0,
-        clear: 0,
-        conflict: 0,
-        conflicts: 0,
-        refused: 0,
-    }
+fn differ(a: Numbers, b: Numbers) -> bool {
+    (a.kind != b.kind)
+        | (a.first != b.first)
+        | (a.second != b.second)
+        | (a.third != b.third)
+        | (a.fourth != b.fourth)
+        | (a.fifth != b.fifth)
+        | (a.sixth != b.sixth)
 }
 
 // One more if it is so. A file has far fewer cases than would make a count start again.
@@ -199,9 +201,13 @@ fn more_if(n: u64, so: bool) -> u64 {
     n
 }
 
-fn counted(report: Report, tried: Tried) -> Report {
-    let kind = tried.kind;
-    let differences = more_if(report.differences, tried.differs);
+// Judges the case at the start of the bytes, and counts it.
+fn counted(report: Report, case: &[u8]) -> Report
+    requires { ⌜ 200 ≤ length (now case) ⌝ }
+{
+    let found = answer_numbers(answer_to(case));
+    let kind = found.kind;
+    let differences = more_if(report.differences, differ(found, expected(case)));
     Report {
         cases: more_if(report.cases, true),
         differences: differences,
@@ -216,11 +222,19 @@ fn counted(report: Report, tried: Tried) -> Report {
 // Judges all whole cases.
 fn report_on(bytes: &[u8]) -> Report {
     let cases = bytes.len() / CASE;
-    let mut report = no_cases();
+    let mut report = Report {
+        cases: 0,
+        differences: 0,
+        agreeing: 0,
+        clear: 0,
+        conflict: 0,
+        conflicts: 0,
+        refused: 0,
+    };
     let mut i: usize = 0;
     while i < cases {
         let at = i * CASE;
-        report = counted(report, try_case(&bytes[at..]));
+        report = counted(report, &bytes[at..]);
         i = i + 1;
     }
     report
@@ -238,10 +252,8 @@ fn write_number(text: &[u8], n: u64) {
 fn write_report(report: Report) {
     write_number(b"  cases ", report.cases);
     write_number(b", differences ", report.differences);
-    if 0 < report.differences {
-        write_number(b", the first in case ", report.agreeing);
-    }
-    write_number(b"; kind 65 ", report.clear);
+    write_number(b" after ", report.agreeing);
+    write_number(b" that agree; kind 65 ", report.clear);
     write_number(b", 66 ", report.conflict);
     write_number(b", 67 ", report.conflicts);
     write_number(b", 68 ", report.refused);
@@ -261,15 +273,13 @@ fn first_line(bytes: &[u8]) -> usize
     i
 }
 
+// Bytes that are left over are of a case that was cut, or of a file longer than the room.
 fn report_bytes(bytes: &[u8]) {
     let start = first_line(bytes);
     write(&bytes[..start]);
     let cases = &bytes[start..];
     write_report(report_on(cases));
-    let rest = cases.len() % CASE;
-    if 0 < rest {
-        write_number(b"; bytes left over ", rest as u64);
-    }
+    write_number(b"; bytes left over ", (cases.len() % CASE) as u64);
     write(b"\n");
 }
 

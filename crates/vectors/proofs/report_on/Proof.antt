@@ -7,13 +7,10 @@ use Rattle.vectors.proofs.report_on.Statement.{statement}
 use Rattle.vectors.proofs.report_on.Tie as tie
 
 abbrev Inv-loop : tie.InvT-loop
-Inv-loop bytes cases report₀ i₀ report i = i ≤ length bytes / 155
+Inv-loop bytes cases report₀ i₀ report i = i ≤ length bytes / 200
 
 abbrev μ-loop : tie.MeasureT-loop
 μ-loop bytes cases report₀ i₀ report i = cases - i
-
-no-cases-requires : tie.Need-no-cases-requires Inv-loop μ-loop
-no-cases-requires c κs = search needs
 
 loop-holds : tie.Need-loop-holds Inv-loop μ-loop
 loop-holds c = omega arith
@@ -21,20 +18,17 @@ loop-holds c = omega arith
 mul-at : tie.Need-mul-at Inv-loop μ-loop
 mul-at c = search needs
 
-sub-try-case : tie.Need-sub-try-case Inv-loop μ-loop
-sub-try-case c = search needs
+sub-counted : tie.Need-sub-counted Inv-loop μ-loop
+sub-counted c = search needs
 
-part-try-case-start : tie.Need-part-try-case-start Inv-loop μ-loop
-part-try-case-start c = search needs
+part-counted-start : tie.Need-part-counted-start Inv-loop μ-loop
+part-counted-start c = search needs
 
-part-try-case-end : tie.Need-part-try-case-end Inv-loop μ-loop
-part-try-case-end c = search needs
-
-try-case-requires : tie.Need-try-case-requires Inv-loop μ-loop
-try-case-requires c κs = simp (length-take, length-drop) (omega arith)
+part-counted-end : tie.Need-part-counted-end Inv-loop μ-loop
+part-counted-end c = search needs
 
 counted-requires : tie.Need-counted-requires Inv-loop μ-loop
-counted-requires c κs = search needs
+counted-requires c κs = simp (length-take, length-drop) (omega arith)
 
 add-i : tie.Need-add-i Inv-loop μ-loop
 add-i c = search needs
@@ -54,13 +48,11 @@ report-on-spec =
     (tie.spec
     Inv-loop
     μ-loop
-    no-cases-requires
     loop-holds
     mul-at
-    sub-try-case
-    part-try-case-start
-    part-try-case-end
-    try-case-requires
+    sub-counted
+    part-counted-start
+    part-counted-end
     counted-requires
     add-i
     loop-less
