@@ -1,0 +1,172 @@
+// The path on the screen: the pieces of the lower path with 64-bit floats, and the point of each whole second. `specs/` says what they are.
+ghost use mathlib.Core.Path.{_≡_};
+ghost use Prim.Native.Nat.{_≤_};
+ghost use lib.IntN.{pos};
+ghost use Rattle.question.specs.declared.Checked.the-variants.{Accepted};
+ghost use Rattle.question.specs.Refusals.{refusal};
+ghost use Rattle.sensed.specs.Sensed.{sensedQuestion};
+ghost use Rattle.pieces.specs.PieceSizes.{PieceSizes};
+ghost use Rattle.screen.specs.Floats.{float};
+ghost use Rattle.screen.specs.Drawings.{floatPiece, drawnPiece, content, drawn, drawnPieces, drawing};
+ghost use Rattle.screen.specs.Points.{evaluated, screenPoint, pointCheck, pointAnswer};
+ghost use Rattle.path.specs.Sizes.{Sizes};
+use instant::Time;
+use instant::lowest_terms;
+use path::SensedQuestion;
+use pieces::WholePiece;
+use pieces::arc_piece;
+use pieces::delay_piece;
+use pieces::last_piece;
+use pieces::missing_speed;
+use pieces::piece_at;
+use question::Checked;
+use question::Encounter;
+use question::Question;
+use question::Settings;
+use refusals::check_question;
+use sensed::sensed_question;
+
+// A stretch of path with its coefficients: an arc of t², t and 1, a straight of t and 1.
+pub enum Piece {
+    Arc(f64, f64, f64),
+    Straight(f64, f64),
+}
+
+// A piece, and the time from which it holds.
+pub struct DrawnPiece {
+    pub from: Time,
+    pub piece: Piece,
+}
+
+// One to three pieces in time's order, or the refusal's number.
+pub enum Drawing {
+    Refused(u8),
+    One(DrawnPiece),
+    Two(DrawnPiece, DrawnPiece),
+    Three(DrawnPiece, DrawnPiece, DrawnPiece),
+}
+
+pub struct ScreenPoint {
+    pub time: f64,
+    pub height: f64,
+}
+
+pub enum PointAnswer {
+    Refused(u8),
+    Drawn(ScreenPoint),
+}
+
+// Every whole number of a piece is below 2⁵³, so its cast is exact.
+fn float_piece(p: WholePiece) -> Piece
+    requires { ⌜ PieceSizes p ⌝ }
+    ensures { λ r. ⌜ r ≡ floatPiece p ⌝ }
+{
+    let square = p.square;
+    let linear = p.linear;
+    let constant = p.constant;
+    if square == 0 {
+        return Piece::Straight(linear as f64, constant as f64);
+    }
+    Piece::Arc(square as f64, linear as f64, constant as f64)
+}
+
+fn drawn_piece(p: WholePiece) -> DrawnPiece
+    requires { ⌜ PieceSizes p ⌝ }
+    ensures { λ r. ⌜ r ≡ drawnPiece p ⌝ }
+{
+    DrawnPiece {
+        from: lowest_terms(p.from.n, p.from.m),
+        piece: float_piece(p),
+    }
+}
+
+// The pieces that have a length.
+fn drawing_of(s: SensedQuestion) -> Drawing
+    requires { ⌜ Sizes s ⌝ }
+    ensures { λ r. ⌜ content r ≡ drawn (drawnPieces s) ⌝ }
+{
+    let last = drawn_piece(last_piece(s));
+    if missing_speed(s) == 0 {
+        if s.delay == 0 {
+            return Drawing::One(last);
+        }
+        return Drawing::Two(drawn_piece(delay_piece(s)), last);
+    }
+    let arc = drawn_piece(arc_piece(s));
+    if s.delay == 0 {
+        return Drawing::Two(arc, last);
+    }
+    Drawing::Three(drawn_piece(delay_piece(s)), arc, last)
+}
+
+// The entry for a drawing: any 64-bit values.
+pub fn drawing(encounter: Encounter, settings: Settings, question: Question) -> Drawing
+    ensures { λ r. ⌜ content r ≡ drawing encounter settings question ⌝ }
+{
+    match check_question(encounter, settings, question) {
+        Checked::Accepted => drawing_of(sensed_question(encounter, settings, question)),
+        Checked::Refused(number) => Drawing::Refused(number),
+    }
+}
+
+// The constant coefficient is added last: it is +0 where it is 0, so no −0 comes out.
+fn evaluate(piece: Piece, t: f64) -> f64
+    ensures { λ r. ⌜ r ≡ evaluated piece t ⌝ }
+{
+    match piece {
+        Piece::Arc(square, linear, constant) => (square * t + linear) * t + constant,
+        Piece::Straight(linear, constant) => linear * t + constant,
+    }
+}
+
+fn point_at(s: SensedQuestion, second: u64) -> ScreenPoint
+    requires { ⌜ Sizes s ⌝ }
+    requires { ⌜ second ≤ 600 ⌝ }
+    ensures { λ r. ⌜ r ≡ screenPoint s second ⌝ }
+{
+    let piece = float_piece(piece_at(s, second));
+    let time = second as f64;
+    ScreenPoint {
+        time: time,
+        height: evaluate(piece, time),
+    }
+}
+
+// A second above 600 gets 6, after the refusals of the entry for plain numbers.
+fn check_point(
+    encounter: Encounter,
+    settings: Settings,
+    question: Question,
+    second: u64,
+) -> Checked
+    ensures { λ r. ⌜ r ≡ pointCheck encounter settings question second ⌝ }
+{
+    match check_question(encounter, settings, question) {
+        Checked::Accepted => {
+            if second <= 600 {
+                Checked::Accepted
+            } else {
+                Checked::Refused(6)
+            }
+        }
+        Checked::Refused(number) => Checked::Refused(number),
+    }
+}
+
+// The entry for a screen point: any 64-bit values.
+pub fn screen_point(
+    encounter: Encounter,
+    settings: Settings,
+    question: Question,
+    second: u64,
+) -> PointAnswer
+    ensures { λ r. ⌜ r ≡ pointAnswer encounter settings question second ⌝ }
+{
+    match check_point(encounter, settings, question, second) {
+        Checked::Accepted => {
+            let s = sensed_question(encounter, settings, question);
+            PointAnswer::Drawn(point_at(s, second))
+        }
+        Checked::Refused(number) => PointAnswer::Refused(number),
+    }
+}
