@@ -1,5 +1,6 @@
 -- The bounds of a piece's parts, as rules for `search`, and the sizes of the three pieces. Assumes nothing.
 use mathlib.Core.Path.{_≡_}
+use mathlib.Core.Bool.{Bool, true, false, cond}
 use Prim.Native.Nat.{ℕ, _≤_}
 use native.Mathlib.Nat.{mul-le-mul}
 use native.Mathlib.Omega.{arith}
@@ -9,7 +10,7 @@ use mir.Val.{toZ}
 use Rattle.integers.specs.Extremes.{max0}
 use Rattle.integers.proofs.Machine.{Reading, bounded-natural, bounded-word, bounded-absolute}
 use Rattle.instant.specs.declared.Instant.{Instant}
-use Rattle.instant.specs.Order.{Sized}
+use Rattle.instant.specs.Order.{Sized, noLater}
 use Rattle.path.specs.declared.SensedQuestion.{SensedQuestion}
 use Rattle.path.specs.Letters.{u, q, a, d, e}
 use Rattle.path.specs.Paths.{delayHeight, u-d}
@@ -17,7 +18,7 @@ use Rattle.path.specs.Sizes.{Sizes}
 use Rattle.window.proofs.Fields.{size}
 use Rattle.conflict.proofs.Fields.{start-size, after-delay-size, numbers}
 use Rattle.pieces.specs.declared.WholePiece.{WholePiece}
-use Rattle.pieces.specs.Pieces.{heightAfterDelay, missingSpeed, delayPiece, arcPiece, lastPiece}
+use Rattle.pieces.specs.Pieces.{heightAfterDelay, missingSpeed, delayPiece, arcPiece, lastPiece, pieceAt}
 use Rattle.pieces.specs.PieceSizes.{PieceSizes}
 
 max0-size : (z : ℤ) → max0 z ≤ natAbs z
@@ -92,6 +93,14 @@ module _ (s : SensedQuestion) (z : Sizes s) where
         linear-hi = omega (arith, size (lastPiece s .linear) (search numbers depth 20) tt);
         constant-hi = omega (arith, size (lastPiece s .constant) (search numbers depth 20) tt);
       }
+
+  pub piece-at-sizes : (t : Instant) → PieceSizes (pieceAt s t)
+  piece-at-sizes t = go (noLater (lastPiece s .from) t) (noLater (arcPiece s .from) t)
+    where
+      go : (l m : Bool) → PieceSizes (cond l (lastPiece s) (cond m (arcPiece s) (delayPiece s)))
+      go true m = last-sizes
+      go false true = arc-sizes
+      go false false = delay-sizes
 
 -- ---- their times
 module _ (s : SensedQuestion) (z : Sizes s) where

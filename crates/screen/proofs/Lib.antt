@@ -1,0 +1,4 @@
+pub mod WholeFloats
+pub mod Evaluation
+pub mod StoredNumbers
+pub mod PointChecks

@@ -100,7 +100,7 @@ fn drawing_of(s: SensedQuestion) -> Drawing
 }
 
 // The entry for a drawing: any 64-bit values.
-pub fn drawing(encounter: Encounter, settings: Settings, question: Question) -> Drawing
+pub fn screen_drawing(encounter: Encounter, settings: Settings, question: Question) -> Drawing
     ensures { λ r. ⌜ content r ≡ drawing encounter settings question ⌝ }
 {
     match check_question(encounter, settings, question) {
