@@ -1,2 +1,3 @@
 pub mod Pieces
 pub mod PieceSizes
+pub mod RightPieces

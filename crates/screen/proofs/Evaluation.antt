@@ -55,7 +55,7 @@ module _ (p : WholePiece) (z : PieceSizes p) (t : ℕ) (ht : t ≤ 600) where
   straight-height : p .square ≡ pos 0 → p .linear *ℤ pos t +ℤ p .constant ≡ pieceHeight p t 1
   straight-height e = sym (modulo (pos t *ℤ pos t) e (ring (t ∷ []) (p .square ∷ p .linear ∷ p .constant ∷ []) (λ v. search quote depth 20) tt))
 
-  arc-height : (p .square *ℤ pos t +ℤ p .linear) *ℤ pos t +ℤ p .constant ≡ pieceHeight p t 1
+  pub arc-height : (p .square *ℤ pos t +ℤ p .linear) *ℤ pos t +ℤ p .constant ≡ pieceHeight p t 1
   arc-height = ring (t ∷ []) (p .square ∷ p .linear ∷ p .constant ∷ []) (λ v. search quote depth 20) tt
 
   pub evaluated-exact : evaluated (floatPiece p) (float (pos t)) ≡ float (pieceHeight p t 1)

@@ -6,8 +6,8 @@ use mathlib.Core.List.{List, [], _∷_, _++_}
 use Prim.Native.Nat.{ℕ, _≤_, _<_}
 use native.Mathlib.Omega.{arith}
 use lib.Dec.{leb}
-use borrow.Author.Tests.{leb-true, lt-leb}
-use Rattle.integers.proofs.Branches.{picks-no}
+use borrow.Author.Tests.{leb-true, le-leb, lt-leb}
+use Rattle.integers.proofs.Branches.{picks-yes, picks-no}
 use Rattle.question.specs.declared.Encounter.{Encounter}
 use Rattle.question.specs.declared.Settings.{Settings}
 use Rattle.question.specs.declared.Question.{Question}
@@ -50,6 +50,10 @@ module _ (x : Encounter) (y : Settings) (z : Question) (t : ℕ) where
       within : (b : Bool) → leb t 600 ≡ b → cond b Checked.Accepted (Checked.Refused 6) ≡ Checked.Accepted → t ≤ 600
       within true e f = leb-true t 600 e
       within false e f = let z : _≡_ {A = ℕ} 0 1 = cc in absurd (omega arith)
+
+  pub in-time : refusal x y z ≡ Checked.Accepted → t ≤ 600 → pointCheck x y z t ≡ Checked.Accepted
+  unfolding pointCheck refusal
+  in-time e h = accepted-first (plainChecks x y z) (check 6 (leb t 600) ∷ []) e ∙ picks-yes (leb t 600) Checked.Accepted (Checked.Refused 6) (le-leb t 600 h)
 
   -- an accepted question's second above 600 gets 6
   pub late-second : refusal x y z ≡ Checked.Accepted → 600 < t → pointCheck x y z t ≡ Checked.Refused 6
