@@ -10,7 +10,7 @@ use mir.Val.{toZ}
 use Rattle.integers.specs.Extremes.{max0}
 use Rattle.integers.proofs.Machine.{Reading, bounded-natural, bounded-word, bounded-absolute}
 use Rattle.instant.specs.declared.Instant.{Instant}
-use Rattle.instant.specs.Order.{Sized, noLater}
+use Rattle.instant.specs.Order.{Sized}
 use Rattle.path.specs.declared.SensedQuestion.{SensedQuestion}
 use Rattle.path.specs.Letters.{u, q, a, d, e}
 use Rattle.path.specs.Paths.{delayHeight, u-d}
@@ -18,7 +18,7 @@ use Rattle.path.specs.Sizes.{Sizes}
 use Rattle.window.proofs.Fields.{size}
 use Rattle.conflict.proofs.Fields.{start-size, after-delay-size, numbers}
 use Rattle.pieces.specs.declared.WholePiece.{WholePiece}
-use Rattle.pieces.specs.Pieces.{heightAfterDelay, missingSpeed, delayPiece, arcPiece, lastPiece, pieceAt}
+use Rattle.pieces.specs.Pieces.{heightAfterDelay, missingSpeed, delayPiece, arcPiece, lastPiece, hasBegun, pieceAt}
 use Rattle.pieces.specs.PieceSizes.{PieceSizes}
 
 max0-size : (z : ℤ) → max0 z ≤ natAbs z
@@ -65,7 +65,7 @@ module _ (s : SensedQuestion) (z : Sizes s) where
       let a = strength in
       let e = acceleration in
       record {
-        square-hi = size (delayPiece s .square) (search numbers depth 20) tt;
+        square-hi = omega (arith, size (delayPiece s .square) (search numbers depth 20) tt);
         linear-hi = omega (arith, size (delayPiece s .linear) (search numbers depth 20) tt);
         constant-hi = omega arith;
       }
@@ -77,9 +77,9 @@ module _ (s : SensedQuestion) (z : Sizes s) where
       let after = read-speed-after in
       let height = read-height in
       record {
-        square-hi = size (arcPiece s .square) (search numbers depth 20) tt;
-        linear-hi = size (arcPiece s .linear) (search numbers depth 20) tt;
-        constant-hi = size (arcPiece s .constant) (search numbers depth 20) tt;
+        square-hi = omega (arith, size (arcPiece s .square) (search numbers depth 20) tt);
+        linear-hi = omega (arith, size (arcPiece s .linear) (search numbers depth 20) tt);
+        constant-hi = omega (arith, size (arcPiece s .constant) (search numbers depth 20) tt);
       }
 
   pub last-sizes : PieceSizes (lastPiece s)
@@ -95,7 +95,7 @@ module _ (s : SensedQuestion) (z : Sizes s) where
       }
 
   pub piece-at-sizes : (t : Instant) → PieceSizes (pieceAt s t)
-  piece-at-sizes t = go (noLater (lastPiece s .from) t) (noLater (arcPiece s .from) t)
+  piece-at-sizes t = go (hasBegun (lastPiece s) t) (hasBegun (arcPiece s) t)
     where
       go : (l m : Bool) → PieceSizes (cond l (lastPiece s) (cond m (arcPiece s) (delayPiece s)))
       go true m = last-sizes

@@ -15,7 +15,7 @@ use Rattle.integers.proofs.Certificates.{ring, nat≡}
 use Rattle.integers.proofs.Laws.{split≤}
 use Rattle.instant.specs.declared.Instant.{Instant}
 use Rattle.instant.specs.declared.Time.{Time}
-use Rattle.instant.specs.Order.{_÷_, _≼_, _≺_, _≈_, noLater}
+use Rattle.instant.specs.Order.{_÷_, _≼_, _≺_, _≈_}
 use Rattle.instant.specs.Lowest.{lowest}
 use Rattle.instant.proofs.LowestTerms.{lowest-same}
 use Rattle.instant.proofs.TimeOrder.{noLater-true, noLater-false, ≼-trans, ≈-≼, ≈-sym}
@@ -25,7 +25,7 @@ use Rattle.path.specs.Paths.{delayHeight, adviceGain, u-d, lowerPath}
 use Rattle.path.proofs.AdviceRule.{gain-zero, gain-arc, gain-straight}
 use Rattle.path.proofs.Continued.{continued-before, continued-after}
 use Rattle.pieces.specs.declared.WholePiece.{WholePiece}
-use Rattle.pieces.specs.Pieces.{heightAfterDelay, missingSpeed, delayPiece, arcPiece, lastPiece, unless, pieces, pieceAt, pieceHeight}
+use Rattle.pieces.specs.Pieces.{heightAfterDelay, missingSpeed, delayPiece, arcPiece, lastPiece, unless, pieces, hasBegun, pieceAt, pieceHeight}
 use Rattle.pieces.specs.RightPieces.{FromStart, InOrder, FollowPath, Agree, meetingTimes, RightPieces, Holds}
 
 -- ---- times from d on, as products
@@ -44,10 +44,10 @@ module _ (a d g n m : ℕ) where
 
 -- ---- whether a piece has begun
 module _ (p : WholePiece) (t : Instant) where
-  begun : noLater (p .from) t ≡ true → p .from ≼ t
+  begun : hasBegun p t ≡ true → p .from ≼ t
   begun x = noLater-true (p .from) t .0 x
 
-  to-come : noLater (p .from) t ≡ false → t ≺ p .from
+  to-come : hasBegun p t ≡ false → t ≺ p .from
   to-come x = noLater-false (p .from) t .0 x
 
 above-zero : (k : ℕ) → eqb k 0 ≡ false → 0 < k
@@ -146,9 +146,9 @@ module _ (s : SensedQuestion) where
 
     -- at every rational time the piece that holds there is the path
     pub held-follows : (n m : ℕ) → 1 ≤ m → pieceHeight (pieceAt s (n ÷ m)) n m ≡ lowerPath s n m
-    held-follows n m i = go (noLater (lastPiece s .from) (n ÷ m)) (noLater (arcPiece s .from) (n ÷ m)) refl refl
+    held-follows n m i = go (hasBegun (lastPiece s) (n ÷ m)) (hasBegun (arcPiece s) (n ÷ m)) refl refl
       where
-        go : (l k : Bool) → noLater (lastPiece s .from) (n ÷ m) ≡ l → noLater (arcPiece s .from) (n ÷ m) ≡ k → pieceHeight (cond l (lastPiece s) (cond k (arcPiece s) (delayPiece s))) n m ≡ lowerPath s n m
+        go : (l k : Bool) → hasBegun (lastPiece s) (n ÷ m) ≡ l → hasBegun (arcPiece s) (n ÷ m) ≡ k → pieceHeight (cond l (lastPiece s) (cond k (arcPiece s) (delayPiece s))) n m ≡ lowerPath s n m
         go true k x y = from-last n m i (begun (lastPiece s) (n ÷ m) x)
         go false true x y = let h = to-come (lastPiece s) (n ÷ m) x in arc-to-last n m i (begun (arcPiece s) (n ÷ m) y) (omega arith)
         go false false x y = let h = to-come (arcPiece s) (n ÷ m) y in delay-follows n m (omega arith)
@@ -205,9 +205,9 @@ module _ (s : SensedQuestion) where
 
     -- ---- the piece that the tests find is the one that holds
     pub held-holds : (t : Instant) → Holds (pieces s) (pieceAt s t) t
-    held-holds t = go (eqb (d s) 0) (eqb (missingSpeed s) 0) (noLater (lastPiece s .from) t) (noLater (arcPiece s .from) t) refl refl refl refl
+    held-holds t = go (eqb (d s) 0) (eqb (missingSpeed s) 0) (hasBegun (lastPiece s) t) (hasBegun (arcPiece s) t) refl refl refl refl
       where
-        go : (b c l k : Bool) → eqb (d s) 0 ≡ b → eqb (missingSpeed s) 0 ≡ c → noLater (lastPiece s .from) t ≡ l → noLater (arcPiece s .from) t ≡ k
+        go : (b c l k : Bool) → eqb (d s) 0 ≡ b → eqb (missingSpeed s) 0 ≡ c → hasBegun (lastPiece s) t ≡ l → hasBegun (arcPiece s) t ≡ k
             → Holds (list b c) (cond l (lastPiece s) (cond k (arcPiece s) (delayPiece s))) t
         go true true true k x y z w = (refl, begun (lastPiece s) t z)
         go true true false k x y z w =
@@ -230,7 +230,6 @@ module _ (s : SensedQuestion) where
         go false false true k x y z w = inr (inr (refl, begun (lastPiece s) t z))
         go false false false true x y z w = inr (inl (refl, begun (arcPiece s) t w, to-come (lastPiece s) t z))
         go false false false false x y z w = inl (refl, omega arith, to-come (arcPiece s) t w)
-
 
     -- ---- which pieces are straights: the delay exactly if e is 0, the arc never, the last always
     pub delay-straight : (delayPiece s .square ≡ pos 0) ↔ (e s ≡ 0)

@@ -58,8 +58,11 @@ abbrev pub pieces : SensedQuestion → List WholePiece
 pieces s = unless (eqb (d s) 0) (delayPiece s) (unless (eqb (missingSpeed s) 0) (arcPiece s) (lastPiece s ∷ []))
 
 -- the piece that holds at a time: the latest that has begun
+abbrev pub hasBegun : WholePiece → Instant → Bool
+hasBegun p t = noLater (p .from) t
+
 abbrev pub pieceAt : SensedQuestion → Instant → WholePiece
-pieceAt s t = cond (noLater (lastPiece s .from) t) (lastPiece s) (cond (noLater (arcPiece s .from) t) (arcPiece s) (delayPiece s))
+pieceAt s t = cond (hasBegun (lastPiece s) t) (lastPiece s) (cond (hasBegun (arcPiece s) t) (arcPiece s) (delayPiece s))
 
 -- the height of a piece at n/m, times m²
 abbrev pub pieceHeight : WholePiece → ℕ → ℕ → ℤ

@@ -26,9 +26,10 @@ use Rattle.pieces.specs.PieceSizes.{PieceSizes}
 use Rattle.pieces.proofs.Fields.{delay-sizes, arc-sizes, last-sizes, piece-at-sizes}
 use Rattle.pieces.proofs.PathPieces.{held-follows, right-pieces}
 use Rattle.screen.specs.declared.Piece.{Piece}
+use Rattle.screen.specs.declared.Drawing.{Drawing}
 use Rattle.screen.specs.declared.PointAnswer.{PointAnswer}
 use Rattle.screen.specs.Floats.{float, Exactly}
-use Rattle.screen.specs.Drawings.{floatPiece, drawnPieces, refused, checkedContent, drawing}
+use Rattle.screen.specs.Drawings.{floatPiece, drawnPieces, Content, refused, drawn, content, checkedContent, drawing}
 use Rattle.screen.specs.Points.{drawnHeight, screenPoint, pointCheck, checkedPoint, pointAnswer}
 use Rattle.screen.specs.RightScreen.{IsStraight, ExactPiece, AllExact, RightDrawing, RightContent, ExactOnTheWay, RightPoint, RightPointAnswer}
 use Rattle.screen.proofs.WholeFloats.{float-exact}
@@ -79,16 +80,16 @@ module _ (p : WholePiece) (z : PieceSizes p) where
         go true = (
           step-product 1040000000 67200000000 (p .linear) (p .constant) t (z .linear-hi) (z .constant-hi) h (lit≤ tt),
           exactly (p .linear *ℤ pos t +ℤ p .constant) (omega (arith, step-size 1040000000 67200000000 (p .linear) (p .constant) t (z .linear-hi) (z .constant-hi) h))
-          (step-sum 1040000000 67200000000 (p .linear) (p .constant) t (z .linear-hi) (z .constant-hi) h (lit≤ tt)),
+              (step-sum 1040000000 67200000000 (p .linear) (p .constant) t (z .linear-hi) (z .constant-hi) h (lit≤ tt)),
         )
         go false = (
           step-product 4000000 1040000000 (p .square) (p .linear) t (z .square-hi) (z .linear-hi) h (lit≤ tt),
           exactly middle (omega (arith, middle-size)) middle-float,
           subst (λ (y : Float). Exactly (mul binary64 y (float (pos t))) (middle *ℤ pos t)) (sym middle-float)
-          (step-product (4000000 * 600 + 1040000000) 67200000000 middle (p .constant) t middle-size (z .constant-hi) h (lit≤ tt)),
+              (step-product (4000000 * 600 + 1040000000) 67200000000 middle (p .constant) t middle-size (z .constant-hi) h (lit≤ tt)),
           exactly (middle *ℤ pos t +ℤ p .constant) (step-size (4000000 * 600 + 1040000000) 67200000000 middle (p .constant) t middle-size (z .constant-hi) h)
-          (ap (λ (y : Float). add binary64 (mul binary64 y (float (pos t))) (float (p .constant))) middle-float
-          ∙ step-sum (4000000 * 600 + 1040000000) 67200000000 middle (p .constant) t middle-size (z .constant-hi) h (lit≤ tt)),
+              (ap (λ (y : Float). add binary64 (mul binary64 y (float (pos t))) (float (p .constant))) middle-float
+              ∙ step-sum (4000000 * 600 + 1040000000) 67200000000 middle (p .constant) t middle-size (z .constant-hi) h (lit≤ tt)),
         )
 
 exact-unless : (b : Bool) (p : WholePiece) (l : List WholePiece) → ExactPiece p → AllExact l → AllExact (unless b p l)
@@ -123,7 +124,26 @@ module _ (s : SensedQuestion) (z : Sizes s) where
       time-exact = float-exact (pos t) (omega arith);
       height-exact = subst (λ (k : ℤ). Exactly (float k) (lowerPath s t 1)) (sym drawn-height) (float-exact (lowerPath s t 1) (omega (arith, height-small)));
       small = omega (arith, height-small);
+      way = exact-on-the-way (pieceAt s (t ÷ 1)) (piece-at-sizes s z (t ÷ 1)) t h;
     }
+
+-- ---- a drawing's content determines it
+drawing-of : Content → Drawing
+drawing-of (refused n) = Drawing.Refused n
+drawing-of (drawn []) = Drawing.Refused 0
+drawing-of (drawn (p ∷ [])) = Drawing.One p
+drawing-of (drawn (p ∷ q ∷ [])) = Drawing.Two p q
+drawing-of (drawn (p ∷ q ∷ r ∷ l)) = Drawing.Three p q r
+
+back : (r : Drawing) → drawing-of (content r) ≡ r
+unfolding drawing-of
+back (Drawing.Refused n) = refl
+back (Drawing.One p) = refl
+back (Drawing.Two p q) = refl
+back (Drawing.Three p q r) = refl
+
+pub content-determines : (r r′ : Drawing) → content r ≡ content r′ → r ≡ r′
+content-determines r r′ e = sym (back r) ∙ ap drawing-of e ∙ back r′
 
 -- ---- the entries: each accepted question is drawn, and each second of it up to 600
 module _ (x : Encounter) (y : Settings) (z : Question) where

@@ -6,9 +6,11 @@ use mathlib.Core.Logic.{_↔_}
 use Prim.Native.Nat.{ℕ, _^_, _<_}
 use lib.IntN.{ℤ, pos, natAbs, _+ℤ_, _*ℤ_}
 use lib.Ieee.{Float, binary64, add, mul}
+use Rattle.instant.specs.Order.{_÷_}
 use Rattle.path.specs.declared.SensedQuestion.{SensedQuestion}
 use Rattle.path.specs.Paths.{lowerPath}
 use Rattle.pieces.specs.declared.WholePiece.{WholePiece}
+use Rattle.pieces.specs.Pieces.{pieceAt}
 use Rattle.pieces.specs.RightPieces.{RightPieces}
 use Rattle.screen.specs.declared.Piece.{Piece}
 use Rattle.screen.specs.declared.DrawnPiece.{DrawnPiece}
@@ -53,13 +55,15 @@ ExactOnTheWay p (Piece.Arc w y z) t x =
     × Exactly (mul binary64 (add binary64 (mul binary64 w x) y) x) ((p .square *ℤ t +ℤ p .linear) *ℤ t)
     × Exactly (add binary64 (mul binary64 (add binary64 (mul binary64 w x) y) x) z) ((p .square *ℤ t +ℤ p .linear) *ℤ t +ℤ p .constant)
 
--- The time is the second, the height 2 × a × f there: each is that whole number's float, so a zero is +0, and its value is exactly that number.
+-- The time is the second, the height 2 × a × f there: each is that whole number's float, so a zero is +0, and its value is exactly that number. So is every
+-- product and sum on the way.
 pub record RightPoint (s : SensedQuestion) (t : ℕ) (p : ScreenPoint) : Type 0 where
   pub time : p .time ≡ float (pos t)
   pub height : p .height ≡ float (lowerPath s t 1)
   pub time-exact : Exactly (p .time) (pos t)
   pub height-exact : Exactly (p .height) (lowerPath s t 1)
   pub small : natAbs (lowerPath s t 1) < 2 ^ 53
+  pub way : let held = pieceAt s (t ÷ 1) in ExactOnTheWay held (floatPiece held) (pos t) (float (pos t))
 
 abbrev pub RightPointAnswer : SensedQuestion → ℕ → PointAnswer → Type 0
 RightPointAnswer s t (PointAnswer.Drawn p) = RightPoint s t p

@@ -133,12 +133,7 @@ fn point_at(s: SensedQuestion, second: u64) -> ScreenPoint
 }
 
 // A second above 600 gets 6, after the refusals of the entry for plain numbers.
-fn check_point(
-    encounter: Encounter,
-    settings: Settings,
-    question: Question,
-    second: u64,
-) -> Checked
+fn check_point(encounter: Encounter, settings: Settings, question: Question, second: u64) -> Checked
     ensures { λ r. ⌜ r ≡ pointCheck encounter settings question second ⌝ }
 {
     match check_question(encounter, settings, question) {

@@ -1,6 +1,7 @@
 -- `screen::check_point` meets its contract: the checks of the entry for plain numbers come first, and the second's last.
 use mathlib.Core.Path.{_≡_, sym, _∙_}
 use mathlib.Core.List.{[], _∷_}
+use native.Mathlib.Omega.{arith}
 use lib.Dec.{leb}
 use borrow.Author.Needs.{needs}
 use borrow.Author.Tests.{le-leb, lt-leb}
@@ -27,13 +28,13 @@ returns : tie.Need-returns
 returns c =
     let t = c .before in
     let z = t .before .before .before in
-    sym (by-second t ∙ picks-yes (leb (z .args .second) 600) Checked.Accepted (Checked.Refused 6) (le-leb (z .args .second) 600 (c .if1 .taken)))
+    sym (by-second t ∙ picks-yes (leb (z .args .second) 600) Checked.Accepted (Checked.Refused 6) (le-leb (z .args .second) 600 (omega (arith, c .if1 .taken))))
 
 returns-2 : tie.Need-returns-2
 returns-2 c =
     let t = c .before in
     let z = t .before .before .before in
-    sym (by-second t ∙ picks-no (leb (z .args .second) 600) Checked.Accepted (Checked.Refused 6) (lt-leb (z .args .second) 600 (c .if1 .left)))
+    sym (by-second t ∙ picks-no (leb (z .args .second) 600) Checked.Accepted (Checked.Refused 6) (lt-leb (z .args .second) 600 (omega (arith, c .if1 .left))))
 
 returns-3 : tie.Need-returns-3
 unfolding pointCheck refusal
