@@ -1,6 +1,6 @@
 -- The pieces split the lower path: each is the path where it holds, by one polynomial identity each, and the tests of `pieceAt` find the piece that
 -- holds. Assumes nothing.
-use mathlib.Core.Path.{_≡_, refl, sym, ap, _∙_, subst}
+use mathlib.Core.Path.{_≡_, refl, sym, ap, _∙_}
 use mathlib.Core.Bool.{Bool, true, false, cond}
 use mathlib.Core.List.{List, [], _∷_}
 use mathlib.Core.Logic.{_↔_, inl, inr, ⊎-elim}

@@ -1,3 +1,4 @@
 pub mod Pieces
 pub mod PieceSizes
 pub mod RightPieces
+pub mod Example

@@ -51,8 +51,8 @@ lastPiece s = record {
 }
 
 -- "Pieces of no length are left out": the delay where d is 0, the arc where G is 0
-abbrev pub unless : Bool → WholePiece → List WholePiece → List WholePiece
-unless b p l = cond b l (p ∷ l)
+abbrev pub unless : {A : Type 0} → Bool → A → List A → List A
+unless b x l = cond b l (x ∷ l)
 
 abbrev pub pieces : SensedQuestion → List WholePiece
 pieces s = unless (eqb (d s) 0) (delayPiece s) (unless (eqb (missingSpeed s) 0) (arcPiece s) (lastPiece s ∷ []))

@@ -1,7 +1,6 @@
 -- What it is for a list of pieces to split a question's lower path: "Pieces meet where the paths of document 01 change rule, at times kept as whole seconds,
 -- remainder and divisor; pieces of no length are left out." A height at n/m stands times 2 × a × m², as `path` has it.
 use mathlib.Core.Path.{_≡_}
-use mathlib.Core.Bool.{Bool, cond}
 use mathlib.Core.List.{List, [], _∷_}
 use mathlib.Core.Logic.{_⊎_}
 use Prim.Native.Nat.{ℕ, _+_, _*_, _≤_}
@@ -14,7 +13,7 @@ use Rattle.path.specs.declared.SensedQuestion.{SensedQuestion}
 use Rattle.path.specs.Letters.{a, d}
 use Rattle.path.specs.Paths.{lowerPath}
 use Rattle.pieces.specs.declared.WholePiece.{WholePiece}
-use Rattle.pieces.specs.Pieces.{missingSpeed, pieceHeight}
+use Rattle.pieces.specs.Pieces.{missingSpeed, unless, pieceHeight}
 
 -- the first piece holds from 0
 abbrev pub FromStart : List WholePiece → Type 0
@@ -46,11 +45,8 @@ meetingTimes (p ∷ []) = []
 meetingTimes (p ∷ r ∷ l) = lowest (r .from .n) (r .from .m) ∷ meetingTimes (r ∷ l)
 
 -- the times at which the path changes rule: at d, if there is a delay, and at d + G/a, if speed is missing
-abbrev pub unlessNone : ℕ → Time → List Time → List Time
-unlessNone k t l = cond (eqb k 0) l (t ∷ l)
-
 abbrev pub ruleChanges : SensedQuestion → List Time
-ruleChanges s = unlessNone (d s) (lowest (d s) 1) (unlessNone (missingSpeed s) (lowest (d s * a s + missingSpeed s) (a s)) [])
+ruleChanges s = unless (eqb (d s) 0) (lowest (d s) 1) (unless (eqb (missingSpeed s) 0) (lowest (d s * a s + missingSpeed s) (a s)) [])
 
 pub record RightPieces (s : SensedQuestion) (l : List WholePiece) : Type 0 where
   pub start : FromStart l

@@ -3,7 +3,7 @@ use mathlib.Core.Path.{_≡_, refl, sym, ap, subst, _∙_}
 use mathlib.Core.Bool.{Bool, true, false, cond}
 use mathlib.Core.List.{List, [], _∷_}
 use mathlib.Core.Logic.{_↔_}
-use Prim.Native.Nat.{ℕ, _*_, _+_, _^_, _≤_, _<_}
+use Prim.Native.Nat.{ℕ, _*_, _+_, _≤_, _<_}
 use native.Mathlib.Omega.{arith}
 use lib.Dec.{T, lit≤, eqb}
 use lib.IntN.{ℤ, pos, natAbs, _+ℤ_, _*ℤ_}
@@ -22,22 +22,26 @@ use Rattle.sensed.specs.Sensed.{sensedQuestion}
 use Rattle.sensed.proofs.AcceptedSizes.{accepted-sizes}
 use Rattle.pieces.specs.declared.WholePiece.{WholePiece}
 use Rattle.pieces.specs.Pieces.{missingSpeed, delayPiece, arcPiece, lastPiece, unless, pieces, pieceAt, pieceHeight}
-use Rattle.pieces.specs.PieceSizes.{PieceSizes}
+use Rattle.pieces.specs.PieceSizes.{mostSquare, mostLinear, mostConstant, PieceSizes}
 use Rattle.pieces.proofs.Fields.{delay-sizes, arc-sizes, last-sizes, piece-at-sizes}
 use Rattle.pieces.proofs.PathPieces.{held-follows, right-pieces}
 use Rattle.screen.specs.declared.Piece.{Piece}
 use Rattle.screen.specs.declared.Drawing.{Drawing}
 use Rattle.screen.specs.declared.PointAnswer.{PointAnswer}
 use Rattle.screen.specs.Floats.{float, Exactly}
-use Rattle.screen.specs.Drawings.{floatPiece, drawnPieces, Content, refused, drawn, content, checkedContent, drawing}
-use Rattle.screen.specs.Points.{drawnHeight, screenPoint, pointCheck, checkedPoint, pointAnswer}
+use Rattle.screen.specs.Drawings.{floatPiece, drawnPieces, Content, refused, drawn, content, checkedContent, screenDrawing}
+use Rattle.screen.specs.Points.{drawnHeight, pointAt, pointRefusal, checkedPoint, screenPoint}
 use Rattle.screen.specs.RightScreen.{IsStraight, ExactPiece, AllExact, RightDrawing, RightContent, ExactOnTheWay, RightPoint, RightPointAnswer}
 use Rattle.screen.proofs.WholeFloats.{float-exact}
-use Rattle.screen.proofs.Evaluation.{number-zero, step-product, step-sum, step-size, arc-height}
+use Rattle.screen.proofs.Evaluation.{mostMiddle, number-zero, step-product, step-sum, step-size, arc-height}
 use Rattle.screen.proofs.PointChecks.{in-time, late-second, refused-point}
 
+-- the largest height that a piece's bounds allow
+abbrev mostHeight : ℕ
+mostHeight = mostMiddle * 600 + mostConstant
+
 -- the float of a whole number that is small enough has its value
-exactly : {x : Float} (k : ℤ) → natAbs k ≤ 2131200000000 → x ≡ float k → Exactly x k
+exactly : {x : Float} (k : ℤ) → natAbs k ≤ mostHeight → x ≡ float k → Exactly x k
 exactly k l e = subst (λ (y : Float). Exactly y k) (sym e) (float-exact k (omega arith))
 
 -- ---- a piece
@@ -58,38 +62,37 @@ module _ (p : WholePiece) (z : PieceSizes p) where
   }
 
   module _ (t : ℕ) (h : t ≤ 600) where
-    -- the largest height that a piece's bounds allow
-    pub height-size : natAbs (pieceHeight p t 1) ≤ 2131200000000
-    height-size = subst (λ (k : ℤ). natAbs k ≤ 2131200000000) (arc-height p z t h)
-        (step-size (4000000 * 600 + 1040000000) 67200000000 (p .square *ℤ pos t +ℤ p .linear) (p .constant) t (step-size 4000000 1040000000 (p .square) (p .linear) t (z .square-hi) (z .linear-hi) h) (z .constant-hi) h)
+    height-size : natAbs (pieceHeight p t 1) ≤ mostHeight
+    height-size = subst (λ (k : ℤ). natAbs k ≤ mostHeight) (arc-height p z t h)
+        (step-size mostMiddle mostConstant (p .square *ℤ pos t +ℤ p .linear) (p .constant) t (step-size mostSquare mostLinear (p .square) (p .linear) t (z .square-hi) (z .linear-hi) h) (z .constant-hi) h)
 
     -- every product and every sum is exact; the sum of the first product and the linear coefficient is in the middle
     abbrev middle : ℤ
     middle = p .square *ℤ pos t +ℤ p .linear
 
-    middle-size : natAbs middle ≤ 4000000 * 600 + 1040000000
-    middle-size = step-size 4000000 1040000000 (p .square) (p .linear) t (z .square-hi) (z .linear-hi) h
+    middle-size : natAbs middle ≤ mostMiddle
+    middle-size = step-size mostSquare mostLinear (p .square) (p .linear) t (z .square-hi) (z .linear-hi) h
 
     middle-float : add binary64 (mul binary64 (float (p .square)) (float (pos t))) (float (p .linear)) ≡ float middle
-    middle-float = step-sum 4000000 1040000000 (p .square) (p .linear) t (z .square-hi) (z .linear-hi) h (lit≤ tt)
+    middle-float = step-sum mostSquare mostLinear (p .square) (p .linear) t (z .square-hi) (z .linear-hi) h (lit≤ tt)
 
     pub exact-on-the-way : ExactOnTheWay p (floatPiece p) (pos t) (float (pos t))
     exact-on-the-way = go (isNumber (pos 0) (p .square))
       where
         go : (b : Bool) → ExactOnTheWay p (cond b (Piece.Straight (float (p .linear)) (float (p .constant))) (Piece.Arc (float (p .square)) (float (p .linear)) (float (p .constant)))) (pos t) (float (pos t))
         go true = (
-          step-product 1040000000 67200000000 (p .linear) (p .constant) t (z .linear-hi) (z .constant-hi) h (lit≤ tt),
-          exactly (p .linear *ℤ pos t +ℤ p .constant) (omega (arith, step-size 1040000000 67200000000 (p .linear) (p .constant) t (z .linear-hi) (z .constant-hi) h))
-              (step-sum 1040000000 67200000000 (p .linear) (p .constant) t (z .linear-hi) (z .constant-hi) h (lit≤ tt)),
+          step-product mostLinear mostConstant (p .linear) (p .constant) t (z .linear-hi) (z .constant-hi) h (lit≤ tt),
+          exactly (p .linear *ℤ pos t +ℤ p .constant) (omega (arith, step-size mostLinear mostConstant (p .linear) (p .constant) t (z .linear-hi) (z .constant-hi) h))
+              (step-sum mostLinear mostConstant (p .linear) (p .constant) t (z .linear-hi) (z .constant-hi) h (lit≤ tt)),
         )
         go false = (
-          step-product 4000000 1040000000 (p .square) (p .linear) t (z .square-hi) (z .linear-hi) h (lit≤ tt),
+          step-product mostSquare mostLinear (p .square) (p .linear) t (z .square-hi) (z .linear-hi) h (lit≤ tt),
           exactly middle (omega (arith, middle-size)) middle-float,
           subst (λ (y : Float). Exactly (mul binary64 y (float (pos t))) (middle *ℤ pos t)) (sym middle-float)
-              (step-product (4000000 * 600 + 1040000000) 67200000000 middle (p .constant) t middle-size (z .constant-hi) h (lit≤ tt)),
-          exactly (middle *ℤ pos t +ℤ p .constant) (step-size (4000000 * 600 + 1040000000) 67200000000 middle (p .constant) t middle-size (z .constant-hi) h)
+              (step-product mostMiddle mostConstant middle (p .constant) t middle-size (z .constant-hi) h (lit≤ tt)),
+          exactly (middle *ℤ pos t +ℤ p .constant) (step-size mostMiddle mostConstant middle (p .constant) t middle-size (z .constant-hi) h)
               (ap (λ (y : Float). add binary64 (mul binary64 y (float (pos t))) (float (p .constant))) middle-float
-              ∙ step-sum (4000000 * 600 + 1040000000) 67200000000 middle (p .constant) t middle-size (z .constant-hi) h (lit≤ tt)),
+              ∙ step-sum mostMiddle mostConstant middle (p .constant) t middle-size (z .constant-hi) h (lit≤ tt)),
         )
 
 exact-unless : (b : Bool) (p : WholePiece) (l : List WholePiece) → ExactPiece p → AllExact l → AllExact (unless b p l)
@@ -113,11 +116,11 @@ module _ (s : SensedQuestion) (z : Sizes s) where
     unfolding drawnHeight
     drawn-height = held-follows s (z .a-lo) t 1 (omega arith)
 
-    height-small : natAbs (lowerPath s t 1) ≤ 2131200000000
-    height-small = subst (λ (k : ℤ). natAbs k ≤ 2131200000000) (held-follows s (z .a-lo) t 1 (omega arith)) (height-size (pieceAt s (t ÷ 1)) (piece-at-sizes s z (t ÷ 1)) t h)
+    height-small : natAbs (lowerPath s t 1) ≤ mostHeight
+    height-small = subst (λ (k : ℤ). natAbs k ≤ mostHeight) (held-follows s (z .a-lo) t 1 (omega arith)) (height-size (pieceAt s (t ÷ 1)) (piece-at-sizes s z (t ÷ 1)) t h)
 
-    pub right-point : RightPoint s t (screenPoint s t)
-    unfolding screenPoint
+    pub right-point : RightPoint s t (pointAt s t)
+    unfolding pointAt
     right-point = record {
       time = refl;
       height = ap float drawn-height;
@@ -147,28 +150,28 @@ content-determines r r′ e = sym (back r) ∙ ap drawing-of e ∙ back r′
 
 -- ---- the entries: each accepted question is drawn, and each second of it up to 600
 module _ (x : Encounter) (y : Settings) (z : Question) where
-  pub accepted-drawing : refusal x y z ≡ Checked.Accepted → RightContent (sensedQuestion x y z) (drawing x y z)
-  unfolding drawing
+  pub accepted-drawing : refusal x y z ≡ Checked.Accepted → RightContent (sensedQuestion x y z) (screenDrawing x y z)
+  unfolding screenDrawing
   accepted-drawing e =
       subst (λ (k : Checked). RightContent (sensedQuestion x y z) (checkedContent k (drawnPieces (sensedQuestion x y z)))) (sym e) (right-drawing (sensedQuestion x y z) (accepted-sizes x y z e))
 
-  pub refused-drawing : (n : ℕ) → refusal x y z ≡ Checked.Refused n → drawing x y z ≡ refused n
-  unfolding drawing
+  pub refused-drawing : (n : ℕ) → refusal x y z ≡ Checked.Refused n → screenDrawing x y z ≡ refused n
+  unfolding screenDrawing
   refused-drawing n e = ap (λ (k : Checked). checkedContent k (drawnPieces (sensedQuestion x y z))) e
 
   module _ (t : ℕ) where
     abbrev answered : Checked → PointAnswer
-    answered k = checkedPoint k (screenPoint (sensedQuestion x y z) t)
+    answered k = checkedPoint k (pointAt (sensedQuestion x y z) t)
 
-    by-check : (k : Checked) → pointCheck x y z t ≡ k → pointAnswer x y z t ≡ answered k
-    unfolding pointAnswer
+    by-check : (k : Checked) → pointRefusal x y z t ≡ k → screenPoint x y z t ≡ answered k
+    unfolding screenPoint
     by-check k e = ap answered e
 
-    pub accepted-second : refusal x y z ≡ Checked.Accepted → t ≤ 600 → RightPointAnswer (sensedQuestion x y z) t (pointAnswer x y z t)
+    pub accepted-second : refusal x y z ≡ Checked.Accepted → t ≤ 600 → RightPointAnswer (sensedQuestion x y z) t (screenPoint x y z t)
     accepted-second e h = subst (RightPointAnswer (sensedQuestion x y z) t) (sym (by-check Checked.Accepted (in-time x y z t e h))) (right-point (sensedQuestion x y z) (accepted-sizes x y z e) t h)
 
-    pub second-above : refusal x y z ≡ Checked.Accepted → 600 < t → pointAnswer x y z t ≡ PointAnswer.Refused 6
+    pub second-above : refusal x y z ≡ Checked.Accepted → 600 < t → screenPoint x y z t ≡ PointAnswer.Refused 6
     second-above e h = by-check (Checked.Refused 6) (late-second x y z t e h)
 
-    pub refused-second : (n : ℕ) → refusal x y z ≡ Checked.Refused n → pointAnswer x y z t ≡ PointAnswer.Refused n
+    pub refused-second : (n : ℕ) → refusal x y z ≡ Checked.Refused n → screenPoint x y z t ≡ PointAnswer.Refused n
     refused-second n e = by-check (Checked.Refused n) (refused-point x y z t n e)

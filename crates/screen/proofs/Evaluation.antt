@@ -1,7 +1,7 @@
 -- A piece's height at a whole second, by floats: each product and each sum is of whole numbers below 2⁵³, and the height is the float of the piece's own.
 -- Assumes nothing.
 use mathlib.Core.Path.{_≡_, refl, sym, ap, subst, _∙_}
-use mathlib.Core.Bool.{Bool, true, false, cond, _&&_}
+use mathlib.Core.Bool.{Bool, true, false, cond}
 use mathlib.Core.List.{[], _∷_}
 use Prim.Native.Nat.{ℕ, _+_, _*_, _^_, _≤_}
 use native.Mathlib.Nat.{mul-le-mul}
@@ -12,13 +12,13 @@ use lib.Ieee.{Float, binary64, add, mul}
 use Rattle.integers.proofs.Quotation.{quote}
 use Rattle.integers.proofs.Certificates.{ring, modulo}
 use Rattle.integers.proofs.Laws.{≤ℤ-antisym}
-use Rattle.integers.proofs.Machine.{Reading, machine, bounded-absolute, bounded-natural}
+use Rattle.integers.proofs.Machine.{machine, bounded-absolute, bounded-natural}
 use Rattle.question.specs.Refusals.{isNumber}
 use Rattle.question.proofs.WithinLimits.{between}
 use Rattle.window.proofs.Fields.{size}
 use Rattle.pieces.specs.declared.WholePiece.{WholePiece}
 use Rattle.pieces.specs.Pieces.{pieceHeight}
-use Rattle.pieces.specs.PieceSizes.{PieceSizes}
+use Rattle.pieces.specs.PieceSizes.{mostSquare, mostLinear, mostConstant, PieceSizes}
 use Rattle.screen.specs.declared.Piece.{Piece}
 use Rattle.screen.specs.Floats.{float, Exactly}
 use Rattle.screen.specs.Drawings.{floatPiece}
@@ -47,6 +47,10 @@ module _ (A B : ℕ) (z w : ℤ) (t : ℕ) (hz : natAbs z ≤ A) (hw : natAbs w 
     pub step-sum : add binary64 (mul binary64 (float z) (float (pos t))) (float w) ≡ float (z *ℤ pos t +ℤ w)
     step-sum = sum-float w step-product (omega (arith, product-size))
 
+-- square × t + linear, in the middle of an arc's evaluation
+abbrev pub mostMiddle : ℕ
+mostMiddle = mostSquare * 600 + mostLinear
+
 -- ---- by whether the coefficient of t² is 0
 pub number-zero : (x : ℤ) → T (isNumber (pos 0) x) → x ≡ pos 0
 number-zero x h = let b = between (pos 0) (pos 0) x h in ≤ℤ-antisym (b .to) (b .from)
@@ -66,9 +70,9 @@ module _ (p : WholePiece) (z : PieceSizes p) (t : ℕ) (ht : t ≤ 600) where
           → evaluated (cond b (Piece.Straight (float (p .linear)) (float (p .constant))) (Piece.Arc (float (p .square)) (float (p .linear)) (float (p .constant)))) (float (pos t))
           ≡ float (pieceHeight p t 1)
       go true e =
-          step-sum 1040000000 67200000000 (p .linear) (p .constant) t (z .linear-hi) (z .constant-hi) ht (lit≤ tt)
+          step-sum mostLinear mostConstant (p .linear) (p .constant) t (z .linear-hi) (z .constant-hi) ht (lit≤ tt)
           ∙ ap float (straight-height (number-zero (p .square) (subst T (sym e) tt)))
       go false e =
-          ap (λ (x : Float). add binary64 (mul binary64 x (float (pos t))) (float (p .constant))) (step-sum 4000000 1040000000 (p .square) (p .linear) t (z .square-hi) (z .linear-hi) ht (lit≤ tt))
-          ∙ step-sum (4000000 * 600 + 1040000000) 67200000000 (p .square *ℤ pos t +ℤ p .linear) (p .constant) t (step-size 4000000 1040000000 (p .square) (p .linear) t (z .square-hi) (z .linear-hi) ht) (z .constant-hi) ht (lit≤ tt)
+          ap (λ (x : Float). add binary64 (mul binary64 x (float (pos t))) (float (p .constant))) (step-sum mostSquare mostLinear (p .square) (p .linear) t (z .square-hi) (z .linear-hi) ht (lit≤ tt))
+          ∙ step-sum mostMiddle mostConstant (p .square *ℤ pos t +ℤ p .linear) (p .constant) t (step-size mostSquare mostLinear (p .square) (p .linear) t (z .square-hi) (z .linear-hi) ht) (z .constant-hi) ht (lit≤ tt)
           ∙ ap float arc-height

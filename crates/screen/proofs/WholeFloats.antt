@@ -143,6 +143,11 @@ unfolding ofInt
 float-exact (pos n) h = record { sign = false; size = n; value = round-whole binary64 false n h; whole = refl }
 float-exact (negsuc n) h = record { sign = true; size = suc n; value = round-whole binary64 true (suc n) h; whole = refl }
 
+-- of 0 it is +0
+pub float-zero : float (pos 0) ≡ fin false 0 (pos 0)
+unfolding ofInt
+float-zero = refl
+
 pub cast-exact : (z : ℤ) → natAbs z ≤ 2 ^ 53 → T (inFloat binary64 z)
 unfolding inFloat
 cast-exact (pos n) h = le→leb n (2 ^ 53) h

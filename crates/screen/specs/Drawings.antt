@@ -50,6 +50,6 @@ abbrev pub checkedContent : Checked → List DrawnPiece → Content
 checkedContent Checked.Accepted l = drawn l
 checkedContent (Checked.Refused n) l = refused n
 
-unfoldable pub drawing : Encounter → Settings → Question → Content
+unfoldable pub screenDrawing : Encounter → Settings → Question → Content
 unfolding refusal sensedQuestion drawnPieces
-drawing x y z = checkedContent (refusal x y z) (drawnPieces (sensedQuestion x y z))
+screenDrawing x y z = checkedContent (refusal x y z) (drawnPieces (sensedQuestion x y z))

@@ -28,18 +28,18 @@ unfoldable pub drawnHeight : SensedQuestion → ℕ → ℤ
 unfolding heightAfterDelay
 drawnHeight s t = pieceHeight (pieceAt s (t ÷ 1)) t 1
 
-unfoldable pub screenPoint : SensedQuestion → ℕ → ScreenPoint
+unfoldable pub pointAt : SensedQuestion → ℕ → ScreenPoint
 unfolding drawnHeight
-screenPoint s t = record { time = float (pos t); height = float (drawnHeight s t) }
+pointAt s t = record { time = float (pos t); height = float (drawnHeight s t) }
 
 -- "A second above 600 gets 6; the other refusals are those of the entry for plain numbers", which tests 6 last.
-unfoldable pub pointCheck : Encounter → Settings → Question → ℕ → Checked
-pointCheck x y z t = firstRefusal (plainChecks x y z ++ (check 6 (leb t 600) ∷ []))
+unfoldable pub pointRefusal : Encounter → Settings → Question → ℕ → Checked
+pointRefusal x y z t = firstRefusal (plainChecks x y z ++ (check 6 (leb t 600) ∷ []))
 
 abbrev pub checkedPoint : Checked → ScreenPoint → PointAnswer
 checkedPoint Checked.Accepted p = PointAnswer.Drawn p
 checkedPoint (Checked.Refused n) p = PointAnswer.Refused n
 
-unfoldable pub pointAnswer : Encounter → Settings → Question → ℕ → PointAnswer
-unfolding sensedQuestion screenPoint pointCheck
-pointAnswer x y z t = checkedPoint (pointCheck x y z t) (screenPoint (sensedQuestion x y z) t)
+unfoldable pub screenPoint : Encounter → Settings → Question → ℕ → PointAnswer
+unfolding sensedQuestion pointAt pointRefusal
+screenPoint x y z t = checkedPoint (pointRefusal x y z t) (pointAt (sensedQuestion x y z) t)

@@ -1,15 +1,10 @@
 // The path on the screen: the pieces of the lower path with 64-bit floats, and the point of each whole second. `specs/` says what they are.
 ghost use mathlib.Core.Path.{_≡_};
 ghost use Prim.Native.Nat.{_≤_};
-ghost use lib.IntN.{pos};
-ghost use Rattle.question.specs.declared.Checked.the-variants.{Accepted};
-ghost use Rattle.question.specs.Refusals.{refusal};
-ghost use Rattle.sensed.specs.Sensed.{sensedQuestion};
-ghost use Rattle.pieces.specs.PieceSizes.{PieceSizes};
-ghost use Rattle.screen.specs.Floats.{float};
-ghost use Rattle.screen.specs.Drawings.{floatPiece, drawnPiece, content, drawn, drawnPieces, drawing};
-ghost use Rattle.screen.specs.Points.{evaluated, screenPoint, pointCheck, pointAnswer};
 ghost use Rattle.path.specs.Sizes.{Sizes};
+ghost use Rattle.pieces.specs.PieceSizes.{PieceSizes};
+ghost use Rattle.screen.specs.Drawings.{floatPiece, drawnPiece, content, drawn, drawnPieces, screenDrawing};
+ghost use Rattle.screen.specs.Points.{evaluated, pointAt, pointRefusal, screenPoint};
 use instant::Time;
 use instant::lowest_terms;
 use path::SensedQuestion;
@@ -25,6 +20,9 @@ use question::Question;
 use question::Settings;
 use refusals::check_question;
 use sensed::sensed_question;
+
+// The last second that is drawn.
+const LAST_SECOND: u64 = 600;
 
 // A stretch of path with its coefficients: an arc of t², t and 1, a straight of t and 1.
 pub enum Piece {
@@ -101,7 +99,7 @@ fn drawing_of(s: SensedQuestion) -> Drawing
 
 // The entry for a drawing: any 64-bit values.
 pub fn screen_drawing(encounter: Encounter, settings: Settings, question: Question) -> Drawing
-    ensures { λ r. ⌜ content r ≡ drawing encounter settings question ⌝ }
+    ensures { λ r. ⌜ content r ≡ screenDrawing encounter settings question ⌝ }
 {
     match check_question(encounter, settings, question) {
         Checked::Accepted => drawing_of(sensed_question(encounter, settings, question)),
@@ -122,7 +120,7 @@ fn evaluate(piece: Piece, t: f64) -> f64
 fn point_at(s: SensedQuestion, second: u64) -> ScreenPoint
     requires { ⌜ Sizes s ⌝ }
     requires { ⌜ second ≤ 600 ⌝ }
-    ensures { λ r. ⌜ r ≡ screenPoint s second ⌝ }
+    ensures { λ r. ⌜ r ≡ pointAt s second ⌝ }
 {
     let piece = float_piece(piece_at(s, second));
     let time = second as f64;
@@ -134,11 +132,11 @@ fn point_at(s: SensedQuestion, second: u64) -> ScreenPoint
 
 // A second above 600 gets 6, after the refusals of the entry for plain numbers.
 fn check_point(encounter: Encounter, settings: Settings, question: Question, second: u64) -> Checked
-    ensures { λ r. ⌜ r ≡ pointCheck encounter settings question second ⌝ }
+    ensures { λ r. ⌜ r ≡ pointRefusal encounter settings question second ⌝ }
 {
     match check_question(encounter, settings, question) {
         Checked::Accepted => {
-            if second <= 600 {
+            if second <= LAST_SECOND {
                 Checked::Accepted
             } else {
                 Checked::Refused(6)
@@ -155,7 +153,7 @@ pub fn screen_point(
     question: Question,
     second: u64,
 ) -> PointAnswer
-    ensures { λ r. ⌜ r ≡ pointAnswer encounter settings question second ⌝ }
+    ensures { λ r. ⌜ r ≡ screenPoint encounter settings question second ⌝ }
 {
     match check_point(encounter, settings, question, second) {
         Checked::Accepted => {

@@ -8,17 +8,17 @@ use borrow.Author.Tests.{le-leb, lt-leb}
 use Rattle.integers.proofs.Branches.{picks-yes, picks-no}
 use Rattle.question.specs.declared.Checked.{Checked}
 use Rattle.question.specs.Refusals.{check, firstRefusal, plainChecks, refusal}
-use Rattle.screen.specs.Points.{pointCheck}
+use Rattle.screen.specs.Points.{pointRefusal}
 use Rattle.screen.proofs.PointChecks.{accepted-first, refused-first}
 use Rattle.screen.proofs.check_point.Statement.{statement}
 use Rattle.screen.proofs.check_point.Tie as tie
 
 abbrev asked : tie.Start → Checked
-asked z = pointCheck (z .args .encounter) (z .args .settings) (z .args .question) (z .args .second)
+asked z = pointRefusal (z .args .encounter) (z .args .settings) (z .args .question) (z .args .second)
 
 -- where the entry for plain numbers accepts, the second decides
 by-second : (c : tie.After-enum-told) → let z = c .before .before .before in asked z ≡ firstRefusal (check 6 (leb (z .args .second) 600) ∷ [])
-unfolding pointCheck refusal
+unfolding pointRefusal refusal
 by-second c =
     let k = c .before .before in
     let z = k .before in
@@ -37,7 +37,7 @@ returns-2 c =
     sym (by-second t ∙ picks-no (leb (z .args .second) 600) Checked.Accepted (Checked.Refused 6) (lt-leb (z .args .second) 600 (omega (arith, c .if1 .left))))
 
 returns-3 : tie.Need-returns-3
-unfolding pointCheck refusal
+unfolding pointRefusal refusal
 returns-3 c =
     let n = c .before in
     let k = n .before .before in

@@ -1,6 +1,5 @@
 -- `screen::evaluate` meets its contract: by cases on the piece. Assumes nothing.
 use mathlib.Core.Path.{sym, ap}
-use lib.Ieee.{Float}
 use borrow.Author.Needs.{needs}
 use Rattle.screen.specs.declared.Piece.{Piece}
 use Rattle.screen.specs.Points.{evaluated}

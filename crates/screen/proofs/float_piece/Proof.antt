@@ -1,6 +1,6 @@
 -- `screen::float_piece` meets its contract: each cast is exact, and a coefficient is 0 exactly if its word is. Assumes nothing.
 use mathlib.Core.Path.{_≡_, ap, ap₂, sym, _∙_}
-use lib.IntN.{ℤ, pos}
+use lib.IntN.{pos}
 use lib.Ieee.{Float}
 use Rattle.question.specs.Refusals.{isNumber}
 use Rattle.integers.proofs.Branches.{picks-yes, picks-no}

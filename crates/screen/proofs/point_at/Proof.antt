@@ -1,19 +1,18 @@
 -- `screen::point_at` meets its contract: the second's float is exact, and so is the height at it. Assumes nothing.
-use mathlib.Core.Path.{_≡_, refl, sym, ap, ap₂, subst, _∙_}
+use mathlib.Core.Path.{_≡_, sym, ap, subst, _∙_}
 use native.Mathlib.Omega.{arith}
 use lib.IntN.{pos}
 use lib.Ieee.{Float}
 use borrow.Author.Needs.{needs}
 use Rattle.instant.specs.Order.{_÷_}
-use Rattle.pieces.specs.declared.WholePiece.{WholePiece}
-use Rattle.pieces.specs.Pieces.{pieceAt, heightAfterDelay}
+use Rattle.pieces.specs.Pieces.{pieceAt}
 use Rattle.pieces.specs.PieceSizes.{PieceSizes}
 use Rattle.pieces.proofs.Fields.{piece-at-sizes}
 use Rattle.screen.specs.declared.Piece.{Piece}
 use Rattle.screen.specs.declared.ScreenPoint.{ScreenPoint}
 use Rattle.screen.specs.Floats.{float}
 use Rattle.screen.specs.Drawings.{floatPiece}
-use Rattle.screen.specs.Points.{evaluated, drawnHeight, screenPoint}
+use Rattle.screen.specs.Points.{evaluated, drawnHeight, pointAt}
 use Rattle.screen.proofs.WholeFloats.{cast-exact}
 use Rattle.screen.proofs.Evaluation.{evaluated-exact}
 use Rattle.screen.proofs.point_at.Statement.{statement}
@@ -29,7 +28,7 @@ same-point : {t h h′ : Float} → h ≡ h′ → _≡_ {A = ScreenPoint} (reco
 same-point e = cc
 
 returns : tie.Need-returns
-unfolding screenPoint drawnHeight
+unfolding pointAt drawnHeight
 returns c =
     let f = c .before .before in
     let k = f .before in

@@ -7,7 +7,7 @@ use Rattle.question.specs.declared.Checked.{Checked}
 use Rattle.question.specs.Refusals.{refusal}
 use Rattle.sensed.specs.Sensed.{sensedQuestion}
 use Rattle.sensed.proofs.AcceptedSizes.{accepted-sizes}
-use Rattle.screen.specs.Drawings.{drawn, drawnPieces, checkedContent, drawing}
+use Rattle.screen.specs.Drawings.{drawn, drawnPieces, checkedContent, screenDrawing}
 use Rattle.screen.proofs.screen_drawing.Statement.{statement}
 use Rattle.screen.proofs.screen_drawing.Tie as tie
 
@@ -23,8 +23,8 @@ drawing-of-requires c κs =
     subst Sizes (sym (c .sensed-question .ensures)) (accepted-sizes (z .encounter) (z .settings) (z .question) (accepted (c .before)))
 
 -- the content by what the check says
-by-check : (z : tie.Start) (k : Checked) → let a = z .args in refusal (a .encounter) (a .settings) (a .question) ≡ k → checkedContent k (drawnPieces (sensedQuestion (a .encounter) (a .settings) (a .question))) ≡ drawing (a .encounter) (a .settings) (a .question)
-unfolding drawing
+by-check : (z : tie.Start) (k : Checked) → let a = z .args in refusal (a .encounter) (a .settings) (a .question) ≡ k → checkedContent k (drawnPieces (sensedQuestion (a .encounter) (a .settings) (a .question))) ≡ screenDrawing (a .encounter) (a .settings) (a .question)
+unfolding screenDrawing
 by-check z k e = let a = z .args in ap (λ (j : Checked). checkedContent j (drawnPieces (sensedQuestion (a .encounter) (a .settings) (a .question)))) (sym e)
 
 returns : tie.Need-returns

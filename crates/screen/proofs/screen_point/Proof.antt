@@ -9,12 +9,12 @@ use Rattle.question.specs.Refusals.{refusal}
 use Rattle.sensed.specs.Sensed.{sensedQuestion}
 use Rattle.sensed.proofs.AcceptedSizes.{accepted-sizes}
 use Rattle.screen.specs.declared.PointAnswer.{PointAnswer}
-use Rattle.screen.specs.Points.{screenPoint, pointCheck, checkedPoint, pointAnswer}
+use Rattle.screen.specs.Points.{pointAt, pointRefusal, checkedPoint, screenPoint}
 use Rattle.screen.proofs.PointChecks.{accepted-point}
 use Rattle.screen.proofs.screen_point.Statement.{statement}
 use Rattle.screen.proofs.screen_point.Tie as tie
 
-passed : (c : tie.After-enum-told) → let a = c .before .before .before .args in pointCheck (a .encounter) (a .settings) (a .question) (a .second) ≡ Checked.Accepted
+passed : (c : tie.After-enum-told) → let a = c .before .before .before .args in pointRefusal (a .encounter) (a .settings) (a .question) (a .second) ≡ Checked.Accepted
 passed c = sym (c .before .before .check-point .ensures) ∙ c .enum-told .given .1
 
 accepted : (c : tie.After-enum-told) → let a = c .before .before .before .args in (refusal (a .encounter) (a .settings) (a .question) ≡ Checked.Accepted) × (a .second ≤ 600)
@@ -30,17 +30,17 @@ point-at-requires c κs =
     (subst Sizes (sym (c .sensed-question .ensures)) (accepted-sizes (a .encounter) (a .settings) (a .question) (accepted t .0)), accepted t .1)
 
 -- the answer by what the check says
-by-check : (z : tie.Start) (k : Checked) → let a = z .args in pointCheck (a .encounter) (a .settings) (a .question) (a .second) ≡ k
-    → checkedPoint k (screenPoint (sensedQuestion (a .encounter) (a .settings) (a .question)) (a .second)) ≡ pointAnswer (a .encounter) (a .settings) (a .question) (a .second)
-unfolding pointAnswer
-by-check z k e = let a = z .args in ap (λ (j : Checked). checkedPoint j (screenPoint (sensedQuestion (a .encounter) (a .settings) (a .question)) (a .second))) (sym e)
+by-check : (z : tie.Start) (k : Checked) → let a = z .args in pointRefusal (a .encounter) (a .settings) (a .question) (a .second) ≡ k
+    → checkedPoint k (pointAt (sensedQuestion (a .encounter) (a .settings) (a .question)) (a .second)) ≡ screenPoint (a .encounter) (a .settings) (a .question) (a .second)
+unfolding screenPoint
+by-check z k e = let a = z .args in ap (λ (j : Checked). checkedPoint j (pointAt (sensedQuestion (a .encounter) (a .settings) (a .question)) (a .second))) (sym e)
 
 returns : tie.Need-returns
 returns c =
     let s = c .before in
     let t = s .before in
     let z = t .before .before .before in
-    ap PointAnswer.Drawn (c .point-at .ensures ∙ ap (λ (q : SensedQuestion). screenPoint q (z .args .second)) (s .sensed-question .ensures)) ∙ by-check z Checked.Accepted (passed t)
+    ap PointAnswer.Drawn (c .point-at .ensures ∙ ap (λ (q : SensedQuestion). pointAt q (z .args .second)) (s .sensed-question .ensures)) ∙ by-check z Checked.Accepted (passed t)
 
 returns-2 : tie.Need-returns-2
 returns-2 c =
