@@ -33,11 +33,6 @@ const EQUIVALENT: &[Equivalent] = &[
         reason: "of two instants that are the same time either is shown alike, in lowest terms; a path that turns at the window's start is tried there once more",
     },
     Equivalent {
-        function: "same_instant",
-        turned: "a.n * b.m != b.n * a.m",
-        reason: "no function of the library calls it",
-    },
-    Equivalent {
         function: "gcd",
         turned: "while y == 0 {",
         reason: "no time of an accepted question has a divisor of more than 32 bits",

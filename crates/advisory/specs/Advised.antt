@@ -3,6 +3,7 @@ use mathlib.Core.Option.{Option, none, some}
 use Prim.Native.Nat.{ℕ, _≤_}
 use lib.IntN.{ℤ, pos, negℤ}
 use lib.Signed.{_≤ℤ_}
+use Rattle.limits.specs.Limits.{maxSpeed, minStrength, maxStrength, maxDelay}
 use Rattle.advisory.specs.Catalogue.{catalogueOf, rateOf, Within, Outside}
 use Rattle.advisory.specs.ReactionTable.{reactionTable, rowOf}
 use Rattle.advisory.specs.declared.Advice.{Advice}
@@ -41,10 +42,10 @@ Standing code (Advised.Judged i) = Within 1 16 code
 Standing code Advised.NotJudged = Within 17 18 code
 Standing code Advised.Unknown = Outside 1 18 code
 
--- Document 01's limits: strength 1 to 2,000, delay 0 to 60, target −10,000 to 10,000, the ownship's speed v being in its own.
+-- Document 01's limits on strength, delay and target, the ownship's speed v being in its own.
 pub record InLimits (i : Instruction) : Type 0 where
-  pub strength-from : 1 ≤ i .strength
-  pub strength-to : i .strength ≤ 2000
-  pub delay-to : i .delay ≤ 60
-  pub target-from : (v : ℤ) → negℤ (pos 10000) ≤ℤ v → negℤ (pos 10000) ≤ℤ rateOf (i .target) v
-  pub target-to : (v : ℤ) → v ≤ℤ pos 10000 → rateOf (i .target) v ≤ℤ pos 10000
+  pub strength-from : minStrength ≤ i .strength
+  pub strength-to : i .strength ≤ maxStrength
+  pub delay-to : i .delay ≤ maxDelay
+  pub target-from : (v : ℤ) → negℤ (pos maxSpeed) ≤ℤ v → negℤ (pos maxSpeed) ≤ℤ rateOf (i .target) v
+  pub target-to : (v : ℤ) → v ≤ℤ pos maxSpeed → rateOf (i .target) v ≤ℤ pos maxSpeed

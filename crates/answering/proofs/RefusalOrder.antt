@@ -24,7 +24,7 @@ use Rattle.question.specs.declared.Question.{Question}
 use Rattle.question.specs.declared.Checked.{Checked}
 use Rattle.question.specs.declared.Checked.the-variants.{Accepted, Refused}
 use Rattle.verdict.specs.declared.Verdict.{Verdict}
-use Rattle.question.specs.Limits.{distanceWithin, heightWithin, closingSpeedWithin, speedWithin, strengthWithin, delayWithin}
+use Rattle.limits.specs.Limits.{distanceWithin, heightWithin, closingSpeedWithin, maxSpeed, speedWithin, minStrength, maxStrength, strengthWithin, maxDelay, delayWithin}
 use Rattle.question.specs.Refusals.{isNumber, encounterWithin, puckWithin, delayAccelerationWithin, sidesKnown, adviceWithin, timesWithin, limitAllowed, Check, check, firstRefusal, refusal}
 use Rattle.sensed.specs.Sensed.{sensedQuestion}
 use Rattle.coded.specs.Coded.{senseNumber, instructed, asked, codedQuestion}
@@ -69,13 +69,13 @@ module _ (x : Encounter) (y : Settings) (met : T (encounterWithin x)) (puck : T 
       ∙ picks-yes (encounterWithin x) _ _ (truth (encounterWithin x) met) ∙ picks-yes (puckWithin y) _ _ (truth (puckWithin y) puck) ∙ picks-yes (delayAccelerationWithin y) _ _ (truth (delayAccelerationWithin y) acceleration)
 
   -- ---- a judged code passes 4 and 5, and its delay is within limits: 6 only through its limit
-  own-speed : Between (negℤ (pos 10000)) (pos 10000) (x .speed)
+  own-speed : Between (negℤ (pos maxSpeed)) (pos maxSpeed) (x .speed)
   own-speed =
       let r = distanceWithin (x .distance) in
       let h = heightWithin (x .height) in
       let c = closingSpeedWithin (x .«closing_speed») in
       let v = speedWithin (x .speed) in
-      between (negℤ (pos 10000)) (pos 10000) (x .speed) (and-r ((r && h) && c) v (and-l (((r && h) && c) && v) (speedWithin (x .«intruder_speed»)) met))
+      between (negℤ (pos maxSpeed)) (pos maxSpeed) (x .speed) (and-r ((r && h) && c) v (and-l (((r && h) && c) && v) (speedWithin (x .«intruder_speed»)) met))
 
   sense-known : (s : Sense) → (isNumber (pos 0) (senseNumber s) || isNumber (pos 1) (senseNumber s)) ≡ true
   sense-known Climb = refl
@@ -88,16 +88,16 @@ module _ (x : Encounter) (y : Settings) (met : T (encounterWithin x)) (puck : T 
     target-passes : speedWithin (rateOf (i .target) (x .speed)) ≡ true
     target-passes =
         let t = rateOf (i .target) (x .speed) in
-        both (truth (leZ (negℤ (pos 10000)) t) (limits .target-from (x .speed) (own-speed .from) .le)) (truth (leZ t (pos 10000)) (limits .target-to (x .speed) (own-speed .to) .le))
+        both (truth (leZ (negℤ (pos maxSpeed)) t) (limits .target-from (x .speed) (own-speed .from) .le)) (truth (leZ t (pos maxSpeed)) (limits .target-to (x .speed) (own-speed .to) .le))
 
     strength-passes : strengthWithin (pos (i .strength)) ≡ true
-    strength-passes = both (le-leb 1 (i .strength) (limits .strength-from)) (le-leb (i .strength) 2000 (limits .strength-to))
+    strength-passes = both (le-leb minStrength (i .strength) (limits .strength-from)) (le-leb (i .strength) maxStrength (limits .strength-to))
 
     advice-passes : adviceWithin (instructed i (x .speed) limit) ≡ true
     advice-passes = both (both target-passes strength-passes) refl
 
     delay-passes : delayWithin (pos (i .delay)) ≡ true
-    delay-passes = both (le-leb 0 (i .delay) (omega arith)) (le-leb (i .delay) 60 (limits .delay-to))
+    delay-passes = both (le-leb 0 (i .delay) (omega arith)) (le-leb (i .delay) maxDelay (limits .delay-to))
 
     times-by-limit : timesWithin (instructed i (x .speed) limit) ≡ limitAllowed (instructed i (x .speed) limit)
     times-by-limit = ap (λ (b : Bool). (b && true) && limitAllowed (instructed i (x .speed) limit)) delay-passes

@@ -11,8 +11,8 @@ use Rattle.question.specs.declared.Checked.{Checked}
 use Rattle.coded.specs.declared.CodedQuestion.{CodedQuestion}
 use Rattle.judge.specs.declared.Answer.{Answer}
 use Rattle.judge.specs.declared.Answer.the-variants.{Refused}
-use Rattle.question.specs.Limits.{limitWithin}
-use Rattle.question.specs.Refusals.{isNumber, noLimit, encounterWithin, puckWithin, delayAccelerationWithin, sidesKnown, adviceWithin, timesWithin, Check, check}
+use Rattle.limits.specs.Limits.{limitWithin, noLimit}
+use Rattle.question.specs.Refusals.{isNumber, encounterWithin, puckWithin, delayAccelerationWithin, sidesKnown, adviceWithin, timesWithin, Check, check}
 use Rattle.coded.specs.Coded.{codedQuestion}
 use Rattle.judge.specs.Answers.{answer}
 use Rattle.record.specs.declared.Record.{Record}

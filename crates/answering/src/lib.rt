@@ -1,7 +1,7 @@
 // The state that a sheet keeps, and the reply to each record. `specs/` says what both are.
 ghost use mathlib.Core.Path.{_≡_};
 ghost use Rattle.judge.specs.Answers.{answerRecord};
-ghost use Rattle.reply.specs.AnswerBytes.{replyBytes};
+ghost use Rattle.reply.specs.AnswerBytes.{replyRecord};
 ghost use Rattle.answering.specs.States.{startingState, withPuck, withDelayAcceleration, withSettings, withEncounter, stateAfter};
 ghost use Rattle.answering.specs.Replies.{settingsReply, codedAnswer, freeAnswer, replyTo};
 use coded::CodedQuestion;
@@ -144,7 +144,7 @@ fn free_answer(encounter: LastEncounter, settings: Settings, question: Question)
 }
 
 pub fn reply_to(state: State, given: Record) -> Reply
-    ensures { λ r. ⌜ replyBytes r ≡ replyBytes (replyTo state given) ⌝ }
+    ensures { λ r. ⌜ replyRecord r ≡ replyRecord (replyTo state given) ⌝ }
 {
     let settings = state.settings;
     let encounter = state.encounter;

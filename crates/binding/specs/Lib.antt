@@ -1,1 +1,2 @@
+pub mod PlainNumbers
 pub mod Flat

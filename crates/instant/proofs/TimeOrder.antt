@@ -1,5 +1,5 @@
 -- The order of rational times: reflexive, total and, over a positive divisor in the middle, transitive; blind to a common factor of n and m; decided by
--- its tests; and the earlier of two instants is the latest that is no later than both. By arithmetic on the cross products. Assumes nothing.
+-- its test; and the earlier of two instants is the latest that is no later than both. By arithmetic on the cross products. Assumes nothing.
 use mathlib.Core.Bool.{Bool, true, false, cond}
 use mathlib.Core.Logic.{_↔_, _⊎_, inl, inr}
 use mathlib.Core.Path.{_≡_, refl, sym}
@@ -8,11 +8,11 @@ use native.Mathlib.Nat.{le-refl, le-of-eq, le-of-lt, le-antisymm, lt-of-le-of-lt
 use native.Mathlib.Nat.{mul-le-mul-left, mul-le-mul-right, mul-lt-mul-of-pos-right, le-of-mul-le-mul-right}
 use native.Mathlib.Omega.{arith}
 use lib.Pow.{pow-pos}
-use borrow.Author.Tests.{leb-true, leb-false, le-leb, lt-leb, eqb-true, eqb-false, eq-eqb, ne-eqb}
+use borrow.Author.Tests.{leb-true, leb-false, le-leb, lt-leb}
 use Rattle.instant.specs.declared.Instant.{Instant}
-use Rattle.instant.specs.Order.{_÷_, _≼_, _≺_, _≈_, noLater, sameInstant, earlier, Sized}
+use Rattle.instant.specs.Order.{_÷_, _≼_, _≺_, _≈_, noLater, earlier, Sized}
 
--- ---- the tests decide
+-- ---- the test decides
 
 module _ (a b : Instant) where
   pub noLater-true : (noLater a b ≡ true) ↔ (a ≼ b)
@@ -20,12 +20,6 @@ module _ (a b : Instant) where
 
   pub noLater-false : (noLater a b ≡ false) ↔ (b ≺ a)
   noLater-false = (leb-false _ _, lt-leb _ _)
-
-  pub sameInstant-true : (sameInstant a b ≡ true) ↔ (a ≈ b)
-  sameInstant-true = (eqb-true _ _, eq-eqb _ _)
-
-  pub sameInstant-false : (sameInstant a b ≡ false) ↔ (¬ (a ≈ b))
-  sameInstant-false = (eqb-false _ _, ne-eqb _ _)
 
 -- ---- the earlier of two
 

@@ -3,7 +3,7 @@
 use mathlib.Core.Bool.{Bool, cond}
 use mathlib.Core.Path.{_≡_}
 use Prim.Native.Nat.{ℕ, _*_, _^_, _≤_, _<_}
-use lib.Dec.{leb, eqb}
+use lib.Dec.{leb}
 use Rattle.instant.specs.declared.Instant.{Instant}
 
 infix 40 _÷_
@@ -28,15 +28,11 @@ a ≈ b = a .n * b .m ≡ b .n * a .m
 abbrev pub noLater : Instant → Instant → Bool
 noLater a b = leb (a .n * b .m) (b .n * a .m)
 
--- the test of a ≈ b
-abbrev pub sameInstant : Instant → Instant → Bool
-sameInstant a b = eqb (a .n * b .m) (b .n * a .m)
-
 -- the earlier of two instants: a where a is no later than b, else b
 abbrev pub earlier : Instant → Instant → Instant
 earlier a b = cond (noLater a b) a b
 
--- small enough that the products fit 64 bits; the limits of document 01 keep n to 200,480,000 and m to 150,000
+-- small enough that the products fit 64 bits; the limits of document 01 keep n and m far below
 pub record Sized (a : Instant) : Type 0 where
   pub n : a .n < 2 ^ 32
   pub m : a .m < 2 ^ 32

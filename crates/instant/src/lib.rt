@@ -3,7 +3,7 @@
 ghost use mathlib.Core.Path.{_≡_};
 ghost use Prim.Native.Nat.{min};
 ghost use lib.Count.{trailingZeros};
-ghost use Rattle.instant.specs.Order.{Sized, noLater, sameInstant, earlier};
+ghost use Rattle.instant.specs.Order.{Sized, noLater, earlier};
 ghost use Rattle.instant.specs.Lowest.{gcd, lowest};
 
 // The rational time n/m, in seconds; a time has m ≥ 1.
@@ -31,14 +31,6 @@ pub fn no_later(a: Instant, b: Instant) -> bool
     ensures { λ r. ⌜ r ≡ noLater a b ⌝ }
 {
     a.n * b.m <= b.n * a.m
-}
-
-// Are a and b the same rational time?
-pub fn same_instant(a: Instant, b: Instant) -> bool
-    requires { ⌜ Sized a × Sized b ⌝ }
-    ensures { λ r. ⌜ r ≡ sameInstant a b ⌝ }
-{
-    a.n * b.m == b.n * a.m
 }
 
 // The earlier of a and b; a where they are the same rational time.

@@ -11,7 +11,7 @@ use lib.Signed.{_≤ℤ_, _<ℤ_, leZ, leZ-yes, ≤ℤ-refl, <ℤ-irrefl}
 use Rattle.integers.specs.Extremes.{max0, maxℤ, minℤ}
 use Rattle.integers.proofs.Difference.{cond-by, as-difference, natural, negated, to-ℤ≤, to-ℤ<, to-ℤ≡, to-ℕ≤, parts≤, parts<, parts≡}
 use Rattle.integers.proofs.Quotation.{quote}
-use Rattle.integers.proofs.Certificates.{ring, by≤, by<, div≤, gap≤, gap<, _⊞_, _⊠_, split<, pos≤, nat≤}
+use Rattle.integers.proofs.Certificates.{ring, by≤, by<, div≤, gap≤, gap<, _⊞_, _⊠_, 0≤pos, split<, pos≤, nat≤}
 
 -- ---- associativity and distributivity
 module _ (a b c : ℤ) where
@@ -126,6 +126,10 @@ module _ (x y : ℤ) where
 
   pub minℤ-right : minℤ x y ≤ℤ y
   minℤ-right = cond-by (leZ x y) x y (λ z. z ≤ℤ y) (λ t. leZ-yes t) (λ t. ≤ℤ-refl y)
+
+-- what the larger of two is above one of them
+pub maxℤ-above : (x y : ℤ) (n : ℕ) → (x -ℤ y) ≤ℤ pos n → max0 (maxℤ x y -ℤ y) ≤ n
+maxℤ-above x y n h = max0-le (maxℤ x y -ℤ y) n (cond-by (leZ x y) y x (λ z. (z -ℤ y) ≤ℤ pos n) (λ t. by≤ (n ∷ []) (y ∷ []) (0≤pos n) (λ v. search quote depth 20) tt) (λ t. h))
 
 -- ---- |z| ≤ k is -k ≤ z ≤ k
 pub natAbs-hi : (z : ℤ) (k : ℕ) → natAbs z ≤ k → z ≤ℤ pos k

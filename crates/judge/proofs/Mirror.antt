@@ -21,8 +21,8 @@ use Rattle.question.specs.declared.Settings.{Settings}
 use Rattle.question.specs.declared.Question.{Question}
 use Rattle.question.specs.declared.Checked.{Checked}
 use Rattle.judge.specs.declared.Answer.{Answer}
-use Rattle.question.specs.Limits.{within, distanceWithin, heightWithin, closingSpeedWithin, speedWithin, strengthWithin}
-use Rattle.question.specs.Refusals.{isNumber, senseOf, noLimit, twoSided, lowerWithin, upperZero, upperRanges, strengthsOrdered, targetsOrdered, upperWithin, Check, firstRefusal, plainChecks, refusal}
+use Rattle.limits.specs.Limits.{within, distanceWithin, maxHeight, heightWithin, closingSpeedWithin, maxSpeed, speedWithin, strengthWithin, noLimit}
+use Rattle.question.specs.Refusals.{isNumber, senseOf, twoSided, lowerWithin, upperZero, upperRanges, strengthsOrdered, targetsOrdered, upperWithin, Check, firstRefusal, plainChecks, refusal}
 use Rattle.sensed.specs.Sensed.{sensedQuestion}
 use Rattle.verdict.specs.Verdicts.{verdict}
 use Rattle.judge.specs.Answers.{answer}
@@ -142,7 +142,7 @@ module _ (x : Encounter) (y : Settings) (z : Question) (accepted : refusal x y z
           let orders = and-r (upperRanges z) (strengthsOrdered z && targetsOrdered z) h in
           and-i (upperRanges (turned z)) (strengthsOrdered z && targetsOrdered (turned z))
           (and-i (speedWithin (negℤ (z .«upper_target»))) (strengthWithin (z .«upper_strength»))
-          (mirror-within 10000 (z .«upper_target») (and-l (speedWithin (z .«upper_target»)) (strengthWithin (z .«upper_strength»)) ranges))
+          (mirror-within maxSpeed (z .«upper_target») (and-l (speedWithin (z .«upper_target»)) (strengthWithin (z .«upper_strength»)) ranges))
           (and-r (speedWithin (z .«upper_target»)) (strengthWithin (z .«upper_strength»)) ranges))
           (and-i (strengthsOrdered z) (targetsOrdered (turned z)) (and-l (strengthsOrdered z) (targetsOrdered z) orders)
           (subst T (sym (ap₂ leZ (same-value x y z turn (z .target)) (same-value x y z turn (z .«upper_target»)))) (and-r (strengthsOrdered z) (targetsOrdered z) orders)))
@@ -169,7 +169,7 @@ module _ (x : Encounter) (y : Settings) (z : Question) (accepted : refusal x y z
       let sides = isNumber (pos 1) (z .sides) || isNumber (pos 2) (z .sides) in
       let lower = and-l (lowerWithin z) (cond (twoSided z) (upperWithin z) (upperZero z)) (passed .1 .1 .1 .1 .0) in
       accepts (plainChecks (mirrored x) y (turned z)) (
-        and-i (((r && h′) && c) && v′) i′ (and-i ((r && h′) && c) v′ (and-i (r && h′) c (and-i r h′ (and-l r h t₄) (mirror-within 480000 (x .height) (and-r r h t₄))) (and-r (r && h) c t₃)) (mirror-within 10000 (x .speed) (and-r ((r && h) && c) v t₂))) (mirror-within 10000 (x .«intruder_speed») (and-r (((r && h) && c) && v) i t₁)),
+        and-i (((r && h′) && c) && v′) i′ (and-i ((r && h′) && c) v′ (and-i (r && h′) c (and-i r h′ (and-l r h t₄) (mirror-within maxHeight (x .height) (and-r r h t₄))) (and-r (r && h) c t₃)) (mirror-within maxSpeed (x .speed) (and-r ((r && h) && c) v t₂))) (mirror-within maxSpeed (x .«intruder_speed») (and-r (((r && h) && c) && v) i t₁)),
         (
           passed .1 .0,
           (
@@ -178,7 +178,7 @@ module _ (x : Encounter) (y : Settings) (z : Question) (accepted : refusal x y z
               and-i sides (isNumber (pos 0) (pos 1 -ℤ z .sense) || isNumber (pos 1) (pos 1 -ℤ z .sense)) (and-l sides (isNumber (pos 0) (z .sense) || isNumber (pos 1) (z .sense)) (passed .1 .1 .1 .0)) (turn .known),
               (
                 and-i (lowerWithin (turned z)) (cond (twoSided z) (upperWithin (turned z)) (upperZero (turned z)))
-                    (and-i (speedWithin (negℤ (z .target))) (strengthWithin (z .strength)) (mirror-within 10000 (z .target) (and-l (speedWithin (z .target)) (strengthWithin (z .strength)) lower)) (and-r (speedWithin (z .target)) (strengthWithin (z .strength)) lower))
+                    (and-i (speedWithin (negℤ (z .target))) (strengthWithin (z .strength)) (mirror-within maxSpeed (z .target) (and-l (speedWithin (z .target)) (strengthWithin (z .strength)) lower)) (and-r (speedWithin (z .target)) (strengthWithin (z .strength)) lower))
                     (upper-turned (and-r (lowerWithin z) (cond (twoSided z) (upperWithin z) (upperZero z)) (passed .1 .1 .1 .1 .0))),
                 (passed .1 .1 .1 .1 .1 .0, tt),
               ),

@@ -7,7 +7,7 @@ use Rattle.question.specs.declared.Encounter.{Encounter}
 use Rattle.question.specs.declared.Settings.{Settings}
 use Rattle.coded.specs.declared.CodedQuestion.{CodedQuestion}
 use Rattle.judge.specs.declared.Answer.{Answer}
-use Rattle.question.specs.Refusals.{noLimit}
+use Rattle.limits.specs.Limits.{noLimit}
 use Rattle.question.specs.StartingSettings.{startingSettings}
 use Rattle.coded.specs.Coded.{codedQuestion}
 use Rattle.judge.specs.Answers.{answer, AnswerRecord, answers, answerRecord}

@@ -1,5 +1,5 @@
 pub mod Answers
-pub mod Results
 pub mod Demand3
 pub mod Examples
+pub mod Marked
 pub mod Mirror

@@ -8,12 +8,12 @@ use Prim.Native.Nat.{ℕ, _+_, _*_, _-_, _<_, _≤_}
 use native.Mathlib.Nat.{mul-le-mul-left}
 use native.Mathlib.Omega.{arith}
 use lib.IntN.{ℤ, pos, negsuc, negℤ, _+ℤ_, _-ℤ_, _*ℤ_}
-use lib.Signed.{_≤ℤ_, _<ℤ_, leZ, leZ-yes, ltZ-yes}
-use Rattle.integers.specs.Extremes.{max0, maxℤ}
-use Rattle.integers.proofs.Difference.{cond-by}
+use lib.Signed.{_≤ℤ_, _<ℤ_, leZ-yes, ltZ-yes}
+use Rattle.limits.specs.Limits.{maxHeight}
+use Rattle.integers.specs.Extremes.{max0}
 use Rattle.integers.proofs.Quotation.{quote}
 use Rattle.integers.proofs.Certificates.{ring, by≤, gap≤, gap<, _⊞_, _⊠_, 0≤pos, pos≤, split<}
-use Rattle.integers.proofs.Laws.{≤ℤ-of-≡, <ℤ-≤ℤ, ≤ℤ-trans, negℤ-mono, negℤ-cancel, max0-le}
+use Rattle.integers.proofs.Laws.{≤ℤ-of-≡, <ℤ-≤ℤ, ≤ℤ-trans, negℤ-mono, negℤ-cancel, maxℤ-above}
 use Rattle.instant.specs.declared.Instant.{Instant}
 use Rattle.instant.specs.declared.Moment.the-variants.{Never}
 use Rattle.instant.specs.Order.{_÷_, _≼_}
@@ -24,7 +24,7 @@ use Rattle.path.specs.Paths.{adviceGain, delayHeight, u-d, lowerPath, up
 use Rattle.path.specs.Window.{Window, windowStart, windowEnd}
 use Rattle.path.specs.Conflict.{lowerEdge, upperEdge, NotBeyond, Conflict}
 use Rattle.path.specs.Instants.{Among, listed, turningInstant, pathInstants, instants}
-use Rattle.path.specs.Sizes.{Sizes, Sized, searchEnd}
+use Rattle.path.specs.Sizes.{maxSpeedDifference, Sizes, Sized, searchSeconds, searchEnd}
 use Rattle.path.proofs.Membership.{among-one, among-either}
 use Rattle.path.proofs.AdviceRule.{missing, gain-rises, gain-falls, gain-at-most, gain-at-least, gain-zero, falls-to-turning, rises-from-turning, gain-sinks, delay-rises, delay-falls, gain-scale, delay-scale}
 use Rattle.path.proofs.Pieces.{Pieces, last-hill, last-rise, last-valley, EndsInHill}
@@ -208,30 +208,33 @@ conflict-instant Upper s z n m pm c = low-instant (profile Upper s z) n m pm (co
     (λ e a w. inr (record { endless = e; approaches = a; inside = w }))
 
 -- ---- such a path has reached the intruder at `searchEnd`
-lower-reaches : (s : SensedQuestion) → Sizes s → s .target <ℤ pos 0 → lowerPath s (s .delay + 1680000) 1 ≤ℤ lowerEdge s 1
+lower-reaches : (s : SensedQuestion) → Sizes s → s .target <ℤ pos 0 → lowerPath s (searchEnd Lower s) 1 ≤ℤ lowerEdge s 1
 unfolding delayHeight
 lower-reaches s z h =
     let rule = adviceGain (s .strength) (s .target) (u-d s) in
     let f = delayHeight (s .«delay_acceleration») (s .speed) in
+    let j = searchSeconds Lower in
     ≤ℤ-trans
-    (≤ℤ-of-≡ (continued-after (s .strength) f (s .delay) 1 rule (λ m. gain-zero (s .strength) m (s .target) (u-d s)) (s .delay + 1680000) 1 (omega arith)
-    ∙ ap (λ (x : ℕ). pos (s .strength) *ℤ f (s .delay * 1) 1 +ℤ pos 1 *ℤ rule x 1) {x = s .delay + 1680000 - s .delay * 1} {y = 1680000} (omega arith)))
-    (by≤ (s .strength ∷ s .delay ∷ s .«delay_acceleration» ∷ s .«half_height» ∷ []) (s .speed ∷ s .target ∷ s .level ∷ adviceGain (s .strength) (s .target) (u-d s) 1680000 1 ∷ [])
-    (gap≤ (gain-at-most (s .strength) 1680000 1 (s .target) (u-d s))
-    ⊞ 0≤pos (2 * s .strength) ⊠ (gap≤ (z .wh-lo) ⊞ 0≤pos (s .delay) ⊠ gap≤ (z .u-hi) ⊞ 0≤pos 20000 ⊠ gap≤ (pos≤ (z .d-hi)) ⊞ gap< h ⊠ 0≤pos 1680000))
+    (≤ℤ-of-≡ (continued-after (s .strength) f (s .delay) 1 rule (λ m. gain-zero (s .strength) m (s .target) (u-d s)) (searchEnd Lower s) 1 (omega arith)
+    ∙ ap (λ (x : ℕ). pos (s .strength) *ℤ f (s .delay * 1) 1 +ℤ pos 1 *ℤ rule x 1) {x = searchEnd Lower s - s .delay * 1} {y = j} (omega arith)))
+    (by≤ (s .strength ∷ s .delay ∷ s .«delay_acceleration» ∷ s .«half_height» ∷ []) (s .speed ∷ s .target ∷ s .level ∷ adviceGain (s .strength) (s .target) (u-d s) j 1 ∷ [])
+    (gap≤ (gain-at-most (s .strength) j 1 (s .target) (u-d s))
+    ⊞ 0≤pos (2 * s .strength) ⊠ (gap≤ (z .wh-lo) ⊞ 0≤pos (s .delay) ⊠ gap≤ (z .u-hi) ⊞ 0≤pos maxSpeedDifference ⊠ gap≤ (pos≤ (z .d-hi)) ⊞ gap< h ⊠ 0≤pos j))
     (λ v. search quote depth 20) tt)
 
-missing-size : (x y : ℤ) → (x -ℤ y) ≤ℤ pos 20000 → max0 (maxℤ x y -ℤ y) ≤ 20000
-missing-size x y h = max0-le (maxℤ x y -ℤ y) 20000
-    (cond-by (leZ x y) y x (λ z. (z -ℤ y) ≤ℤ pos 20000) (λ t. by≤ [] (y ∷ []) (0≤pos 0) (λ v. search quote depth 20) tt) (λ t. h))
-
-upper-reaches : (b k : ℕ) (q u level : ℤ) → 1 ≤ b → pos 0 <ℤ q → max0 (q -ℤ u) ≤ 20000 → level ≤ℤ pos 480000 → (pos 2 *ℤ pos b *ℤ pos 1 *ℤ pos 1 *ℤ (level -ℤ pos k)) ≤ℤ adviceGain b q u 200480000 1
-upper-reaches b k q u level hb hq hg hl = ≤ℤ-trans
+-- G × G is at most maxSpeedDifference × maxSpeedDifference × b
+upper-reaches : (b k : ℕ) (q u level : ℤ) → 1 ≤ b → pos 0 <ℤ q → max0 (q -ℤ u) ≤ maxSpeedDifference → level ≤ℤ pos maxHeight
+    → (pos 2 *ℤ pos b *ℤ pos 1 *ℤ pos 1 *ℤ (level -ℤ pos k)) ≤ℤ adviceGain b q u (searchSeconds Upper) 1
+upper-reaches b k q u level hb hq hg hl =
+    let g = maxSpeedDifference in
+    let j = searchSeconds Upper in
+    ≤ℤ-trans
     (by≤ (b ∷ k ∷ max0 (q -ℤ u) ∷ []) (q ∷ level ∷ [])
-    (0≤pos (2 * b) ⊠ gap≤ hl ⊞ 0≤pos (400960000 * b) ⊠ gap< hq ⊞ 0≤pos 400000000 ⊠ gap≤ (pos≤ hb) ⊞ gap≤ (pos≤ hg) ⊠ 0≤pos (20000 + max0 (q -ℤ u)))
+    (0≤pos (2 * b) ⊠ gap≤ hl ⊞ 0≤pos (2 * j * b) ⊠ gap< hq ⊞ 0≤pos (g * g) ⊠ gap≤ (pos≤ hb) ⊞ gap≤ (pos≤ hg) ⊠ 0≤pos (g + max0 (q -ℤ u)))
     (λ v. search quote depth 20) tt)
-    (gain-at-least b 200480000 1 q u)
+    (gain-at-least b j 1 q u)
 
 pub reaches-end : (side : Side) (s : SensedQuestion) → Sized side s → Approaches side s → NotBeyond side s (searchEnd side s) 1
 reaches-end Lower s z h = lower-reaches s z h
-reaches-end Upper s z h = upper-reaches (s .«upper_strength») (s .«half_height») (upperTarget s) (s .speed) (s .level) (z .1 .b-lo) h (missing-size (s .«upper_target») (s .speed) (z .1 .change)) (z .0 .wh-hi)
+reaches-end Upper s z h =
+    upper-reaches (s .«upper_strength») (s .«half_height») (upperTarget s) (s .speed) (s .level) (z .1 .b-lo) h (maxℤ-above (s .«upper_target») (s .speed) maxSpeedDifference (z .1 .change)) (z .0 .wh-hi)

@@ -7,6 +7,7 @@ use native.Mathlib.Omega.{arith}
 use lib.IntN.{ℤ, pos, negsuc, _-ℤ_, natAbs}
 use mir.Syntax.{w64}
 use mir.Val.{toZ}
+use Rattle.limits.specs.Limits.{maxStrength, maxDelayAcceleration, maxDelay}
 use Rattle.integers.specs.Extremes.{max0}
 use Rattle.integers.proofs.Machine.{Reading, bounded-natural, bounded-word, bounded-absolute}
 use Rattle.instant.specs.declared.Instant.{Instant}
@@ -14,12 +15,13 @@ use Rattle.instant.specs.Order.{Sized}
 use Rattle.path.specs.declared.SensedQuestion.{SensedQuestion}
 use Rattle.path.specs.Letters.{u, q, a, d, e}
 use Rattle.path.specs.Paths.{delayHeight, u-d}
-use Rattle.path.specs.Sizes.{Sizes}
+use Rattle.path.specs.Sizes.{maxSpeedAfterDelay, Sizes}
 use Rattle.window.proofs.Fields.{size}
+use Rattle.conflict.specs.RuleSizes.{mostStart}
 use Rattle.conflict.proofs.Fields.{start-size, after-delay-size, numbers}
 use Rattle.pieces.specs.declared.WholePiece.{WholePiece}
 use Rattle.pieces.specs.Pieces.{heightAfterDelay, missingSpeed, delayPiece, arcPiece, lastPiece, hasBegun, pieceAt}
-use Rattle.pieces.specs.PieceSizes.{PieceSizes}
+use Rattle.pieces.specs.PieceSizes.{mostHeightAfterDelay, mostGap, PieceSizes}
 
 max0-size : (z : ℤ) → max0 z ≤ natAbs z
 max0-size (pos n) = omega arith
@@ -27,37 +29,37 @@ max0-size (negsuc n) = omega arith
 
 module _ (s : SensedQuestion) (z : Sizes s) where
   abbrev pub read-strength : Reading (toZ w64 (s .strength))
-  read-strength = bounded-word (a s) 2000 (z .a-hi)
+  read-strength = bounded-word (a s) maxStrength (z .a-hi)
 
   -- the numbers themselves, as a definition has them
   abbrev strength : Reading (pos (a s))
-  strength = bounded-natural (a s) 2000 (z .a-hi)
+  strength = bounded-natural (a s) maxStrength (z .a-hi)
 
   abbrev delay : Reading (pos (d s))
-  delay = bounded-natural (d s) 60 (z .d-hi)
+  delay = bounded-natural (d s) maxDelay (z .d-hi)
 
   abbrev acceleration : Reading (pos (e s))
-  acceleration = bounded-natural (e s) 2000 (z .e-hi)
+  acceleration = bounded-natural (e s) maxDelayAcceleration (z .e-hi)
 
   -- u_d, 2 × a × f_d and G
   abbrev pub read-speed-after : Reading (u-d s)
-  read-speed-after = bounded-absolute (u-d s) 140000 (after-delay-size s z)
+  read-speed-after = bounded-absolute (u-d s) maxSpeedAfterDelay (after-delay-size s z)
 
-  pub height-size : natAbs (heightAfterDelay s) ≤ 19200000000
+  pub height-size : natAbs (heightAfterDelay s) ≤ mostHeightAfterDelay
   unfolding heightAfterDelay
   height-size =
       let a = strength in
-      let start = bounded-absolute (delayHeight (e s) (u s) (d s) 1) 9600000 (start-size s z) in
+      let start = bounded-absolute (delayHeight (e s) (u s) (d s) 1) mostStart (start-size s z) in
       size (heightAfterDelay s) (search numbers depth 20) tt
 
   abbrev pub read-height : Reading (heightAfterDelay s)
-  read-height = bounded-absolute (heightAfterDelay s) 19200000000 height-size
+  read-height = bounded-absolute (heightAfterDelay s) mostHeightAfterDelay height-size
 
-  pub gap-size : missingSpeed s ≤ 160000
+  pub gap-size : missingSpeed s ≤ mostGap
   gap-size = let after = read-speed-after in omega (arith, max0-size (q s -ℤ u-d s), size (q s -ℤ u-d s) (search numbers depth 20) tt)
 
   abbrev gap : Reading (pos (missingSpeed s))
-  gap = bounded-natural (missingSpeed s) 160000 gap-size
+  gap = bounded-natural (missingSpeed s) mostGap gap-size
 
   -- ---- the three pieces
   pub delay-sizes : PieceSizes (delayPiece s)

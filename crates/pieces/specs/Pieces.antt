@@ -64,6 +64,10 @@ hasBegun p t = noLater (p .from) t
 abbrev pub pieceAt : SensedQuestion → Instant → WholePiece
 pieceAt s t = cond (hasBegun (lastPiece s) t) (lastPiece s) (cond (hasBegun (arcPiece s) t) (arcPiece s) (delayPiece s))
 
+-- "each whole second from 0 to 600"
+abbrev pub lastSecond : ℕ
+lastSecond = 600
+
 -- the height of a piece at n/m, times m²
 abbrev pub pieceHeight : WholePiece → ℕ → ℕ → ℤ
 pieceHeight p n m = p .square *ℤ pos n *ℤ pos n +ℤ p .linear *ℤ pos n *ℤ pos m +ℤ p .constant *ℤ pos m *ℤ pos m

@@ -3,7 +3,7 @@ ghost use mathlib.Core.Path.{_≡_};
 ghost use Prim.Native.Nat.{_≤_};
 ghost use Rattle.instant.specs.Order.{_÷_};
 ghost use Rattle.path.specs.Sizes.{Sizes};
-ghost use Rattle.pieces.specs.Pieces.{heightAfterDelay, missingSpeed, delayPiece, arcPiece, lastPiece, pieceAt};
+ghost use Rattle.pieces.specs.Pieces.{heightAfterDelay, missingSpeed, delayPiece, arcPiece, lastPiece, pieceAt, lastSecond};
 use conflict::speed_after_delay;
 use instant::Instant;
 use instant::no_later;
@@ -96,7 +96,7 @@ pub fn last_piece(s: SensedQuestion) -> WholePiece
 // The piece that holds at a whole second.
 pub fn piece_at(s: SensedQuestion, second: u64) -> WholePiece
     requires { ⌜ Sizes s ⌝ }
-    requires { ⌜ second ≤ 600 ⌝ }
+    requires { ⌜ second ≤ lastSecond ⌝ }
     ensures { λ r. ⌜ r ≡ pieceAt s (second ÷ 1) ⌝ }
 {
     let now = Instant { n: second, m: 1 };

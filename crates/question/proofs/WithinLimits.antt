@@ -9,6 +9,7 @@ use lib.Dec.{T}
 use lib.Ieee.Fits.{and-i, and-l, and-r}
 use lib.IntN.{ℤ, pos, negℤ}
 use lib.Signed.{_≤ℤ_, leZ, leZ-yes}
+use Rattle.limits.specs.Limits.{within, maxDistance, distanceWithin, maxHeight, heightWithin, maxClosingSpeed, closingSpeedWithin, maxSpeed, speedWithin, maxRadius, radiusWithin, minHalfHeight, maxHalfHeight, halfHeightWithin, minStrength, maxStrength, strengthWithin, maxDelayAcceleration, maxDelay, delayWithin, maxLimit, limitWithin, noLimit}
 use Rattle.integers.proofs.Quotation.{quote}
 use Rattle.integers.proofs.Certificates.{by≤, gap≤}
 use Rattle.integers.proofs.Laws.{≤ℤ-trans}
@@ -16,8 +17,7 @@ use Rattle.question.specs.declared.Encounter.{Encounter}
 use Rattle.question.specs.declared.Settings.{Settings}
 use Rattle.question.specs.declared.Question.{Question}
 use Rattle.question.specs.declared.Checked.{Checked}
-use Rattle.question.specs.Limits.{within, distanceWithin, heightWithin, closingSpeedWithin, speedWithin, radiusWithin, halfHeightWithin, strengthWithin, delayWithin, limitWithin}
-use Rattle.question.specs.Refusals.{isNumber, twoSided, noLimit, sidesKnown, lowerWithin, upperZero, upperRanges, strengthsOrdered, targetsOrdered, upperWithin, noDelay, limitAllowed, Check, firstRefusal, plainChecks, refusal}
+use Rattle.question.specs.Refusals.{isNumber, twoSided, sidesKnown, lowerWithin, upperZero, upperRanges, strengthsOrdered, targetsOrdered, upperWithin, noDelay, limitAllowed, Check, firstRefusal, plainChecks, refusal}
 
 -- ---- accepted: every test is passed
 abbrev pub AllPass : List Check → Type 0
@@ -49,19 +49,19 @@ or-else false b t = inr t
 
 -- ---- the fields of an accepted question, each within its limits
 pub record WithinLimits (x : Encounter) (y : Settings) (z : Question) : Type 0 where
-  pub distance : Between (negℤ (pos 12000000)) (pos 12000000) (x .distance)
-  pub height : Between (negℤ (pos 480000)) (pos 480000) (x .height)
-  pub closing : Between (pos 0) (pos 150000) (x .«closing_speed»)
-  pub speed : Between (negℤ (pos 10000)) (pos 10000) (x .speed)
-  pub intruder : Between (negℤ (pos 10000)) (pos 10000) (x .«intruder_speed»)
-  pub radius : Between (pos 0) (pos 60000) (y .radius)
-  pub half : Between (pos 1) (pos 12000) (y .«half_height»)
-  pub acceleration : Between (pos 0) (pos 2000) (y .«delay_acceleration»)
+  pub distance : Between (negℤ (pos maxDistance)) (pos maxDistance) (x .distance)
+  pub height : Between (negℤ (pos maxHeight)) (pos maxHeight) (x .height)
+  pub closing : Between (pos 0) (pos maxClosingSpeed) (x .«closing_speed»)
+  pub speed : Between (negℤ (pos maxSpeed)) (pos maxSpeed) (x .speed)
+  pub intruder : Between (negℤ (pos maxSpeed)) (pos maxSpeed) (x .«intruder_speed»)
+  pub radius : Between (pos 0) (pos maxRadius) (y .radius)
+  pub half : Between (pos minHalfHeight) (pos maxHalfHeight) (y .«half_height»)
+  pub acceleration : Between (pos 0) (pos maxDelayAcceleration) (y .«delay_acceleration»)
   pub known : T (sidesKnown z)
-  pub target : Between (negℤ (pos 10000)) (pos 10000) (z .target)
-  pub strength : Between (pos 1) (pos 2000) (z .strength)
+  pub target : Between (negℤ (pos maxSpeed)) (pos maxSpeed) (z .target)
+  pub strength : Between (pos minStrength) (pos maxStrength) (z .strength)
   pub upper : T (cond (twoSided z) (upperWithin z) (upperZero z))
-  pub delay : Between (pos 0) (pos 60) (z .delay)
+  pub delay : Between (pos 0) (pos maxDelay) (z .delay)
   pub limit : T (limitAllowed z)
 
 module _ (x : Encounter) (y : Settings) (z : Question) (e : refusal x y z ≡ Checked.Accepted) where
@@ -85,41 +85,41 @@ module _ (x : Encounter) (y : Settings) (z : Question) (e : refusal x y z ≡ Ch
       let times = not (twoSided z) || noDelay z in
       let limits = limitAllowed z in
       record {
-        distance = between (negℤ (pos 12000000)) (pos 12000000) (x .distance) (and-l r h t₄);
-        height = between (negℤ (pos 480000)) (pos 480000) (x .height) (and-r r h t₄);
-        closing = between (pos 0) (pos 150000) (x .«closing_speed») (and-r (r && h) c t₃);
-        speed = between (negℤ (pos 10000)) (pos 10000) (x .speed) (and-r ((r && h) && c) v t₂);
-        intruder = between (negℤ (pos 10000)) (pos 10000) (x .«intruder_speed») (and-r (((r && h) && c) && v) i t₁);
-        radius = between (pos 0) (pos 60000) (y .radius) (and-l (radiusWithin (y .radius)) (halfHeightWithin (y .«half_height»)) (passed .1 .0));
-        half = between (pos 1) (pos 12000) (y .«half_height») (and-r (radiusWithin (y .radius)) (halfHeightWithin (y .«half_height»)) (passed .1 .0));
-        acceleration = between (pos 0) (pos 2000) (y .«delay_acceleration») (passed .1 .1 .0);
+        distance = between (negℤ (pos maxDistance)) (pos maxDistance) (x .distance) (and-l r h t₄);
+        height = between (negℤ (pos maxHeight)) (pos maxHeight) (x .height) (and-r r h t₄);
+        closing = between (pos 0) (pos maxClosingSpeed) (x .«closing_speed») (and-r (r && h) c t₃);
+        speed = between (negℤ (pos maxSpeed)) (pos maxSpeed) (x .speed) (and-r ((r && h) && c) v t₂);
+        intruder = between (negℤ (pos maxSpeed)) (pos maxSpeed) (x .«intruder_speed») (and-r (((r && h) && c) && v) i t₁);
+        radius = between (pos 0) (pos maxRadius) (y .radius) (and-l (radiusWithin (y .radius)) (halfHeightWithin (y .«half_height»)) (passed .1 .0));
+        half = between (pos minHalfHeight) (pos maxHalfHeight) (y .«half_height») (and-r (radiusWithin (y .radius)) (halfHeightWithin (y .«half_height»)) (passed .1 .0));
+        acceleration = between (pos 0) (pos maxDelayAcceleration) (y .«delay_acceleration») (passed .1 .1 .0);
         known = passed .1 .1 .1 .0;
-        target = between (negℤ (pos 10000)) (pos 10000) (z .target) (and-l (speedWithin (z .target)) (strengthWithin (z .strength)) (and-l (lowerWithin z) (cond (twoSided z) (upperWithin z) (upperZero z)) t₅));
-        strength = between (pos 1) (pos 2000) (z .strength) (and-r (speedWithin (z .target)) (strengthWithin (z .strength)) (and-l (lowerWithin z) (cond (twoSided z) (upperWithin z) (upperZero z)) t₅));
+        target = between (negℤ (pos maxSpeed)) (pos maxSpeed) (z .target) (and-l (speedWithin (z .target)) (strengthWithin (z .strength)) (and-l (lowerWithin z) (cond (twoSided z) (upperWithin z) (upperZero z)) t₅));
+        strength = between (pos minStrength) (pos maxStrength) (z .strength) (and-r (speedWithin (z .target)) (strengthWithin (z .strength)) (and-l (lowerWithin z) (cond (twoSided z) (upperWithin z) (upperZero z)) t₅));
         upper = and-r (lowerWithin z) (cond (twoSided z) (upperWithin z) (upperZero z)) t₅;
-        delay = between (pos 0) (pos 60) (z .delay) (and-l (delayWithin (z .delay)) times (and-l (delayWithin (z .delay) && times) limits t₆));
+        delay = between (pos 0) (pos maxDelay) (z .delay) (and-l (delayWithin (z .delay)) times (and-l (delayWithin (z .delay) && times) limits t₆));
         limit = and-r (delayWithin (z .delay) && times) limits t₆;
       }
 
   -- the limit field, within its limits or 65,535
-  pub limit-between : Between (pos 0) (pos 65535) (z .limit)
+  pub limit-between : Between (pos 0) noLimit (z .limit)
   limit-between = ⊎-elim
-      (λ h. let b = between (pos 0) (pos 600) (z .limit) h in record { from = b .from; to = ≤ℤ-trans (b .to) (leZ-yes tt) })
+      (λ h. let b = between (pos 0) (pos maxLimit) (z .limit) h in record { from = b .from; to = ≤ℤ-trans (b .to) (leZ-yes tt) })
       (λ h. let b = between noLimit noLimit (z .limit) h in record { from = ≤ℤ-trans (leZ-yes tt) (b .from); to = b .to })
       (or-else (limitWithin (z .limit)) (isNumber noLimit (z .limit)) (within-limits .limit))
 
   -- the upper fields, within their limits or 0
-  pub upper-between : Between (negℤ (pos 10000)) (pos 10000) (z .«upper_target») × Between (pos 0) (pos 2000) (z .«upper_strength»)
+  pub upper-between : Between (negℤ (pos maxSpeed)) (pos maxSpeed) (z .«upper_target») × Between (pos 0) (pos maxStrength) (z .«upper_strength»)
   upper-between = go (twoSided z) (within-limits .upper)
     where
       widen : (v : ℤ) (B : ℕ) → Between (pos 0) (pos 0) v → Between (negℤ (pos B)) (pos B) v
       widen v B h = record { from = by≤ (B ∷ []) (v ∷ []) (gap≤ (h .from)) (λ v. search quote depth 20) tt; to = by≤ (B ∷ []) (v ∷ []) (gap≤ (h .to)) (λ v. search quote depth 20) tt }
 
-      go : (b : Bool) → T (cond b (upperWithin z) (upperZero z)) → Between (negℤ (pos 10000)) (pos 10000) (z .«upper_target») × Between (pos 0) (pos 2000) (z .«upper_strength»)
+      go : (b : Bool) → T (cond b (upperWithin z) (upperZero z)) → Between (negℤ (pos maxSpeed)) (pos maxSpeed) (z .«upper_target») × Between (pos 0) (pos maxStrength) (z .«upper_strength»)
       go true t =
           let r = and-l (upperRanges z) (strengthsOrdered z && targetsOrdered z) t in
-          let b = between (pos 1) (pos 2000) (z .«upper_strength») (and-r (speedWithin (z .«upper_target»)) (strengthWithin (z .«upper_strength»)) r) in
-          (between (negℤ (pos 10000)) (pos 10000) (z .«upper_target») (and-l (speedWithin (z .«upper_target»)) (strengthWithin (z .«upper_strength»)) r), record { from = ≤ℤ-trans (leZ-yes tt) (b .from); to = b .to })
+          let b = between (pos minStrength) (pos maxStrength) (z .«upper_strength») (and-r (speedWithin (z .«upper_target»)) (strengthWithin (z .«upper_strength»)) r) in
+          (between (negℤ (pos maxSpeed)) (pos maxSpeed) (z .«upper_target») (and-l (speedWithin (z .«upper_target»)) (strengthWithin (z .«upper_strength»)) r), record { from = ≤ℤ-trans (leZ-yes tt) (b .from); to = b .to })
       go false t =
           let b = between (pos 0) (pos 0) (z .«upper_strength») (and-r (isNumber (pos 0) (z .«upper_target»)) (isNumber (pos 0) (z .«upper_strength»)) t) in
-          (widen (z .«upper_target») 10000 (between (pos 0) (pos 0) (z .«upper_target») (and-l (isNumber (pos 0) (z .«upper_target»)) (isNumber (pos 0) (z .«upper_strength»)) t)), record { from = b .from; to = widen (z .«upper_strength») 2000 b .to })
+          (widen (z .«upper_target») maxSpeed (between (pos 0) (pos 0) (z .«upper_target») (and-l (isNumber (pos 0) (z .«upper_target»)) (isNumber (pos 0) (z .«upper_strength»)) t)), record { from = b .from; to = widen (z .«upper_strength») maxStrength b .to })

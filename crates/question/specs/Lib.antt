@@ -1,3 +1,2 @@
 pub mod StartingSettings
-pub mod Limits
 pub mod Refusals

@@ -5,6 +5,7 @@ use mathlib.Core.List.{List, [], _∷_}
 use Prim.Native.Nat.{ℕ}
 use lib.IntN.{ℤ, pos}
 use lib.Signed.{leZ}
+use Rattle.limits.specs.Limits.{within, distanceWithin, heightWithin, closingSpeedWithin, speedWithin, radiusWithin, halfHeightWithin, strengthWithin, accelerationWithin, targetWithin, delayWithin, limitWithin, noLimit}
 use Rattle.advisory.specs.declared.Sense.{Sense}
 use Rattle.advisory.specs.declared.Sense.the-variants.{Climb, Descend}
 use Rattle.advisory.specs.Sign.{sensed}
@@ -13,7 +14,6 @@ use Rattle.question.specs.declared.Settings.{Settings}
 use Rattle.question.specs.declared.Question.{Question}
 use Rattle.question.specs.declared.Checked.{Checked}
 use Rattle.question.specs.declared.Checked.the-variants.{Accepted, Refused}
-use Rattle.question.specs.Limits.{within, distanceWithin, heightWithin, closingSpeedWithin, speedWithin, radiusWithin, halfHeightWithin, strengthWithin, accelerationWithin, delayWithin, limitWithin}
 
 -- x is the number n
 abbrev pub isNumber : ℤ → ℤ → Bool
@@ -28,9 +28,6 @@ senseOf z = cond (climbs z) Climb Descend
 
 abbrev pub twoSided : Question → Bool
 twoSided z = isNumber (pos 2) (z .sides)
-
-abbrev pub noLimit : ℤ
-noLimit = pos 65535
 
 -- "1 an encounter field outside its limits"
 abbrev pub encounterWithin : Encounter → Bool
@@ -50,13 +47,13 @@ sidesKnown z = (isNumber (pos 1) (z .sides) || isNumber (pos 2) (z .sides)) && (
 -- "5 target or strength outside limits; two-sided, also an upper field outside limits, b < a, or w × upper target below w × target; one-sided, also
 -- an upper field not 0"
 abbrev pub lowerWithin : Question → Bool
-lowerWithin z = speedWithin (z .target) && strengthWithin (z .strength)
+lowerWithin z = targetWithin (z .target) && strengthWithin (z .strength)
 
 abbrev pub upperZero : Question → Bool
 upperZero z = isNumber (pos 0) (z .«upper_target») && isNumber (pos 0) (z .«upper_strength»)
 
 abbrev pub upperRanges : Question → Bool
-upperRanges z = speedWithin (z .«upper_target») && strengthWithin (z .«upper_strength»)
+upperRanges z = targetWithin (z .«upper_target») && strengthWithin (z .«upper_strength»)
 
 abbrev pub strengthsOrdered : Question → Bool
 strengthsOrdered z = leZ (z .strength) (z .«upper_strength»)
@@ -70,7 +67,7 @@ upperWithin z = upperRanges z && (strengthsOrdered z && targetsOrdered z)
 abbrev pub adviceWithin : Question → Bool
 adviceWithin z = lowerWithin z && cond (twoSided z) (upperWithin z) (upperZero z)
 
--- "6 delay or limit outside limits, or a delay when two-sided". "Limit 65,535 means none."
+-- "6 delay or limit outside limits, or a delay when two-sided"
 abbrev pub noDelay : Question → Bool
 noDelay z = isNumber (pos 0) (z .delay)
 

@@ -3,6 +3,17 @@ ghost use mathlib.Core.Path.{_≡_};
 ghost use Rattle.question.specs.StartingSettings.{startingSettings};
 ghost use Rattle.question.specs.Refusals.{climbs, senseOf, twoSided, encounterWithin, puckWithin, delayAccelerationWithin, sidesKnown};
 use advisory::Sense;
+use limits::MAX_CLOSING_SPEED;
+use limits::MAX_DELAY_ACCELERATION;
+use limits::MAX_DISTANCE;
+use limits::MAX_HALF_HEIGHT;
+use limits::MAX_HEIGHT;
+use limits::MAX_RADIUS;
+use limits::MAX_SPEED;
+use limits::MIN_DISTANCE;
+use limits::MIN_HALF_HEIGHT;
+use limits::MIN_HEIGHT;
+use limits::MIN_SPEED;
 
 // The intruder seen from the ownship: r, h, c, v, vi.
 pub struct Encounter {
@@ -57,32 +68,6 @@ pub enum Checked {
     Refused(u8),
 }
 
-// Document 01's table of limits; `refusals` has those of a question.
-const MIN_DISTANCE: i64 = -12000000;
-
-const MAX_DISTANCE: i64 = 12000000;
-
-const MIN_HEIGHT: i64 = -480000;
-
-const MAX_HEIGHT: i64 = 480000;
-
-const MAX_CLOSING_SPEED: i64 = 150000;
-
-pub const MIN_SPEED: i64 = -10000;
-
-pub const MAX_SPEED: i64 = 10000;
-
-const MAX_RADIUS: i64 = 60000;
-
-const MIN_HALF_HEIGHT: i64 = 1;
-
-const MAX_HALF_HEIGHT: i64 = 12000;
-
-const MAX_ACCELERATION: i64 = 2000;
-
-// The limit field that means none.
-pub const NO_LIMIT: i64 = 65535;
-
 pub fn encounter_within(encounter: Encounter) -> bool
     ensures { λ r. ⌜ r ≡ encounterWithin encounter ⌝ }
 {
@@ -103,7 +88,7 @@ pub fn puck_within(settings: Settings) -> bool
 pub fn delay_acceleration_within(settings: Settings) -> bool
     ensures { λ r. ⌜ r ≡ delayAccelerationWithin settings ⌝ }
 {
-    (0 <= settings.delay_acceleration) & (settings.delay_acceleration <= MAX_ACCELERATION)
+    (0 <= settings.delay_acceleration) & (settings.delay_acceleration <= MAX_DELAY_ACCELERATION)
 }
 
 pub fn sides_known(question: Question) -> bool

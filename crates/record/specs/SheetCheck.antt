@@ -17,5 +17,8 @@ faultAfter (suc left) (byte ∷ rest) = faultAfter left rest
 faultAfter zero (kind ∷ rest) = cond (known (kindOf kind)) (faultAfter (bodyLength (kindOf kind)) rest) (Refused 11)
 
 -- "10 longer than 8,192 bytes", tested first
+abbrev pub longestSheet : ℕ
+longestSheet = 8192
+
 abbrev pub sheetCheck : List ℕ → Checked
-sheetCheck sheet = cond (leb (length sheet) 8192) (faultAfter 0 sheet) (Refused 10)
+sheetCheck sheet = cond (leb (length sheet) longestSheet) (faultAfter 0 sheet) (Refused 10)

@@ -1,14 +1,18 @@
 // Refusals 1 to 6: what a question must meet besides the fields' limits, and the tests in rising order. The conditions are `question`'s specs/Refusals.antt.
 ghost use mathlib.Core.Path.{_≡_};
 ghost use lib.Signed.{leZ};
-ghost use Rattle.question.specs.Limits.{delayWithin};
+ghost use Rattle.limits.specs.Limits.{delayWithin};
 ghost use Rattle.question.specs.Refusals.{lowerWithin, upperZero, upperRanges, strengthsOrdered, targetsOrdered, adviceWithin, noDelay, limitAllowed, timesWithin, refusal};
 use advisory::Sense;
+use limits::MAX_DELAY;
+use limits::MAX_LIMIT;
+use limits::MAX_SPEED;
+use limits::MAX_STRENGTH;
+use limits::MIN_SPEED;
+use limits::MIN_STRENGTH;
+use limits::NO_LIMIT;
 use question::Checked;
 use question::Encounter;
-use question::MAX_SPEED;
-use question::MIN_SPEED;
-use question::NO_LIMIT;
 use question::Question;
 use question::Settings;
 use question::delay_acceleration_within;
@@ -17,14 +21,6 @@ use question::puck_within;
 use question::sense_of;
 use question::sides_known;
 use question::two_sided;
-
-const MIN_STRENGTH: i64 = 1;
-
-const MAX_STRENGTH: i64 = 2000;
-
-const MAX_DELAY: i64 = 60;
-
-const MAX_LIMIT: i64 = 600;
 
 fn lower_within(question: Question) -> bool
     ensures { λ r. ⌜ r ≡ lowerWithin question ⌝ }

@@ -37,8 +37,8 @@ use Rattle.verdict.specs.declared.ClearSides.{ClearSides}
 use Rattle.verdict.specs.declared.Verdict.{Verdict}
 use Rattle.verdict.specs.declared.Verdict.the-variants.{Clear, Conflict, Conflicts}
 use Rattle.judge.specs.declared.Answer.{Answer}
-use Rattle.question.specs.Limits.{distanceWithin, heightWithin, closingSpeedWithin, speedWithin, strengthWithin, delayWithin}
-use Rattle.question.specs.Refusals.{isNumber, twoSided, noLimit, encounterWithin, puckWithin, delayAccelerationWithin, sidesKnown, lowerWithin, adviceWithin, timesWithin, refusal}
+use Rattle.limits.specs.Limits.{distanceWithin, heightWithin, closingSpeedWithin, maxSpeed, speedWithin, strengthWithin, delayWithin, noLimit}
+use Rattle.question.specs.Refusals.{isNumber, twoSided, encounterWithin, puckWithin, delayAccelerationWithin, sidesKnown, lowerWithin, adviceWithin, timesWithin, refusal}
 use Rattle.sensed.specs.Sensed.{limitOf, sensedQuestion}
 use Rattle.coded.specs.Coded.{senseNumber, instructed, asked, codedQuestion}
 use Rattle.verdict.specs.Verdicts.{verdict}
@@ -119,11 +119,11 @@ same-numbers : (F : ℤ → ℤ → ℤ → ℤ → Sense → Formula) {c c′ p
 same-numbers F i j l m n = cc
 
 module _ (x : Encounter) (y : Settings) (encounter : encounterWithin x ≡ true) (puck : puckWithin y ≡ true) (acceleration : delayAccelerationWithin y ≡ true) where
-  own-speed : Between (negℤ (pos 10000)) (pos 10000) (x .speed)
+  own-speed : Between (negℤ (pos maxSpeed)) (pos maxSpeed) (x .speed)
   own-speed =
       let v = speedWithin (x .speed) in
       let before = (distanceWithin (x .distance) && heightWithin (x .height)) && closingSpeedWithin (x .«closing_speed») in
-      between (negℤ (pos 10000)) (pos 10000) (x .speed) (and-r before v (and-l (before && v) (speedWithin (x .«intruder_speed»)) (subst T (sym encounter) tt)))
+      between (negℤ (pos maxSpeed)) (pos maxSpeed) (x .speed) (and-r before v (and-l (before && v) (speedWithin (x .«intruder_speed»)) (subst T (sym encounter) tt)))
 
   module _ (i : Instruction) (limits : InLimits i) where
     abbrev question : Question

@@ -17,7 +17,8 @@ use Rattle.question.specs.declared.Checked.{Checked}
 use Rattle.verdict.specs.declared.ClearSides.{ClearSides}
 use Rattle.verdict.specs.declared.Verdict.{Verdict}
 use Rattle.judge.specs.declared.Answer.{Answer}
-use Rattle.question.specs.Refusals.{noLimit, refusal}
+use Rattle.question.specs.Refusals.{refusal}
+use Rattle.limits.specs.Limits.{noLimit}
 use Rattle.sensed.specs.Sensed.{sensedQuestion}
 use Rattle.coded.specs.Coded.{codedQuestion}
 use Rattle.verdict.specs.Verdicts.{verdict}

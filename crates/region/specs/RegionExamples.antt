@@ -7,7 +7,8 @@ use Rattle.path.specs.declared.SensedQuestion.{SensedQuestion}
 use Rattle.question.specs.declared.Question.{Question}
 use Rattle.coded.specs.declared.CodedQuestion.{CodedQuestion}
 use Rattle.question.specs.StartingSettings.{startingSettings}
-use Rattle.question.specs.Refusals.{isNumber, twoSided, noLimit, noDelay}
+use Rattle.question.specs.Refusals.{isNumber, twoSided, noDelay}
+use Rattle.limits.specs.Limits.{noLimit}
 use Rattle.sensed.specs.Sensed.{sensedQuestion}
 use Rattle.judge.specs.Examples.{Example, examples}
 use Rattle.region.specs.Formula.{Formula, holds}

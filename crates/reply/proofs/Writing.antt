@@ -1,11 +1,11 @@
 -- Runs of bytes stored one after the other are one run stored. Assumes nothing.
 use mathlib.Core.Path.{_≡_, sym, ap, _∙_}
 use mathlib.Core.List.{List, [], _∷_, _++_}
-use Prim.Native.Nat.{ℕ, suc, _+_}
-use native.Mathlib.Nat.{add-zero}
+use Prim.Native.Nat.{ℕ, suc, _+_, _≤_}
+use native.Mathlib.Nat.{add-zero, zero-add}
 use native.Mathlib.Omega.{arith}
-use lib.ListN.{length, set}
-use lib.Seq.{sets}
+use lib.ListN.{length, set, drop}
+use lib.Seq.{sets, sets-eq}
 
 next : (w n : ℕ) → w + suc n ≡ suc w + n
 next w n = omega arith
@@ -26,3 +26,7 @@ four-stores d w a b c e =
 -- a byte, then a run
 pub one-then : (d : List ℕ) (w a : ℕ) (xs : List ℕ) → sets (set d w a) (w + 1) xs ≡ sets d w (a ∷ xs)
 one-then d w a xs = sym (sets-append d w (a ∷ []) xs)
+
+-- a run stored from the start on, and the rest of the area
+pub stored-first : (bytes area : List ℕ) → length bytes ≤ length area → sets area 0 bytes ≡ bytes ++ drop (length bytes) area
+stored-first bytes area h = sets-eq bytes area 0 (omega arith) ∙ ap (λ (n : ℕ). bytes ++ drop n area) (zero-add (length bytes))

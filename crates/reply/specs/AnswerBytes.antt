@@ -2,13 +2,15 @@
 -- divisor, 4 unsigned bytes each; kind 67 two such times, lower first; kind 68 one byte, the refusal number." (Kinds and values: judge, specs/Answers.antt.)
 use mathlib.Core.Bool.{cond, _||_}
 use mathlib.Core.List.{List, [], _∷_, _++_}
+use mathlib.Core.Option.{Option, none, some}
 use Prim.Native.Nat.{ℕ, _/_, _%_}
 use lib.Dec.{eqb}
 use Rattle.judge.specs.Answers.{AnswerRecord, answerRecord}
 use Rattle.reply.specs.declared.Reply.{Reply}
 use Rattle.reply.specs.declared.Reply.the-variants.{Silent, Answered}
 
--- the four bytes of an unsigned number, the most significant first
+-- the four bytes of an unsigned number below 2³², the most significant first; of a larger one, the bytes of its remainder by 2³² (no time
+-- shown has one: `ShownTime .small`)
 abbrev pub bigEndian : ℕ → List ℕ
 bigEndian n = n / 16777216 % 256 ∷ n / 65536 % 256 ∷ n / 256 % 256 ∷ n % 256 ∷ []
 
@@ -24,6 +26,14 @@ bodyBytes kind (value ∷ rest) = valueBytes kind value ++ bodyBytes kind rest
 abbrev pub recordBytes : AnswerRecord → List ℕ
 recordBytes r = r .kind ∷ bodyBytes (r .kind) (r .values)
 
+-- the answer record that a reply writes, if it writes one
+abbrev pub replyRecord : Reply → Option AnswerRecord
+replyRecord Silent = none
+replyRecord (Answered a) = some (answerRecord a)
+
+abbrev pub writtenFor : Option AnswerRecord → List ℕ
+writtenFor none = []
+writtenFor (some r) = recordBytes r
+
 abbrev pub replyBytes : Reply → List ℕ
-replyBytes Silent = []
-replyBytes (Answered a) = recordBytes (answerRecord a)
+replyBytes reply = writtenFor (replyRecord reply)

@@ -21,7 +21,7 @@ use Rattle.question.specs.Refusals.{isNumber, refusal}
 use Rattle.sensed.specs.Sensed.{sensedQuestion}
 use Rattle.sensed.proofs.AcceptedSizes.{accepted-sizes}
 use Rattle.pieces.specs.declared.WholePiece.{WholePiece}
-use Rattle.pieces.specs.Pieces.{missingSpeed, delayPiece, arcPiece, lastPiece, unless, pieces, pieceAt, pieceHeight}
+use Rattle.pieces.specs.Pieces.{missingSpeed, delayPiece, arcPiece, lastPiece, unless, pieces, pieceAt, lastSecond, pieceHeight}
 use Rattle.pieces.specs.PieceSizes.{mostSquare, mostLinear, mostConstant, PieceSizes}
 use Rattle.pieces.proofs.Fields.{delay-sizes, arc-sizes, last-sizes, piece-at-sizes}
 use Rattle.pieces.proofs.PathPieces.{held-follows, right-pieces}
@@ -38,7 +38,7 @@ use Rattle.screen.proofs.PointChecks.{in-time, late-second, refused-poi
 
 -- the largest height that a piece's bounds allow
 abbrev mostHeight : ℕ
-mostHeight = mostMiddle * 600 + mostConstant
+mostHeight = mostMiddle * lastSecond + mostConstant
 
 -- the float of a whole number that is small enough has its value
 exactly : {x : Float} (k : ℤ) → natAbs k ≤ mostHeight → x ≡ float k → Exactly x k
@@ -61,7 +61,7 @@ module _ (p : WholePiece) (z : PieceSizes p) where
     straight = straight-if;
   }
 
-  module _ (t : ℕ) (h : t ≤ 600) where
+  module _ (t : ℕ) (h : t ≤ lastSecond) where
     height-size : natAbs (pieceHeight p t 1) ≤ mostHeight
     height-size = subst (λ (k : ℤ). natAbs k ≤ mostHeight) (arc-height p z t h)
         (step-size mostMiddle mostConstant (p .square *ℤ pos t +ℤ p .linear) (p .constant) t (step-size mostSquare mostLinear (p .square) (p .linear) t (z .square-hi) (z .linear-hi) h) (z .constant-hi) h)
@@ -111,7 +111,7 @@ module _ (s : SensedQuestion) (z : Sizes s) where
   unfolding drawnPieces
   right-drawing = record { whole = pieces s; same = refl; right = right-pieces s (z .a-lo); exact = all-exact (eqb (d s) 0) (eqb (missingSpeed s) 0) }
 
-  module _ (t : ℕ) (h : t ≤ 600) where
+  module _ (t : ℕ) (h : t ≤ lastSecond) where
     drawn-height : drawnHeight s t ≡ lowerPath s t 1
     unfolding drawnHeight
     drawn-height = held-follows s (z .a-lo) t 1 (omega arith)
@@ -167,10 +167,10 @@ module _ (x : Encounter) (y : Settings) (z : Question) where
     unfolding screenPoint
     by-check k e = ap answered e
 
-    pub accepted-second : refusal x y z ≡ Checked.Accepted → t ≤ 600 → RightPointAnswer (sensedQuestion x y z) t (screenPoint x y z t)
+    pub accepted-second : refusal x y z ≡ Checked.Accepted → t ≤ lastSecond → RightPointAnswer (sensedQuestion x y z) t (screenPoint x y z t)
     accepted-second e h = subst (RightPointAnswer (sensedQuestion x y z) t) (sym (by-check Checked.Accepted (in-time x y z t e h))) (right-point (sensedQuestion x y z) (accepted-sizes x y z e) t h)
 
-    pub second-above : refusal x y z ≡ Checked.Accepted → 600 < t → screenPoint x y z t ≡ PointAnswer.Refused 6
+    pub second-above : refusal x y z ≡ Checked.Accepted → lastSecond < t → screenPoint x y z t ≡ PointAnswer.Refused 6
     second-above e h = by-check (Checked.Refused 6) (late-second x y z t e h)
 
     pub refused-second : (n : ℕ) → refusal x y z ≡ Checked.Refused n → screenPoint x y z t ≡ PointAnswer.Refused n

@@ -17,7 +17,7 @@ use Rattle.question.specs.Refusals.{isNumber}
 use Rattle.question.proofs.WithinLimits.{between}
 use Rattle.window.proofs.Fields.{size}
 use Rattle.pieces.specs.declared.WholePiece.{WholePiece}
-use Rattle.pieces.specs.Pieces.{pieceHeight}
+use Rattle.pieces.specs.Pieces.{lastSecond, pieceHeight}
 use Rattle.pieces.specs.PieceSizes.{mostSquare, mostLinear, mostConstant, PieceSizes}
 use Rattle.screen.specs.declared.Piece.{Piece}
 use Rattle.screen.specs.Floats.{float, Exactly}
@@ -25,22 +25,22 @@ use Rattle.screen.specs.Drawings.{floatPiece}
 use Rattle.screen.specs.Points.{evaluated}
 use Rattle.screen.proofs.WholeFloats.{float-exact, product-exact, sum-float}
 
--- z × t + w, where |z| is at most A, |w| at most B, and t at most 600
-module _ (A B : ℕ) (z w : ℤ) (t : ℕ) (hz : natAbs z ≤ A) (hw : natAbs w ≤ B) (ht : t ≤ 600) where
-  pub step-size : natAbs (z *ℤ pos t +ℤ w) ≤ A * 600 + B
+-- z × t + w, where |z| is at most A, |w| at most B, and t at most the last second
+module _ (A B : ℕ) (z w : ℤ) (t : ℕ) (hz : natAbs z ≤ A) (hw : natAbs w ≤ B) (ht : t ≤ lastSecond) where
+  pub step-size : natAbs (z *ℤ pos t +ℤ w) ≤ A * lastSecond + B
   step-size =
       let rz = bounded-absolute z A hz in
       let rw = bounded-absolute w B hw in
-      let rt = bounded-natural t 600 ht in
+      let rt = bounded-natural t lastSecond ht in
       size (z *ℤ pos t +ℤ w) (search machine depth 20) tt
 
-  product-size : natAbs (z *ℤ pos t) ≤ A * 600
+  product-size : natAbs (z *ℤ pos t) ≤ A * lastSecond
   product-size =
       let rz = bounded-absolute z A hz in
-      let rt = bounded-natural t 600 ht in
+      let rt = bounded-natural t lastSecond ht in
       size (z *ℤ pos t) (search machine depth 20) tt
 
-  module _ (most : A * 600 + B ≤ 2 ^ 53) where
+  module _ (most : A * lastSecond + B ≤ 2 ^ 53) where
     pub step-product : Exactly (mul binary64 (float z) (float (pos t))) (z *ℤ pos t)
     step-product = product-exact (float-exact z (omega arith)) (float-exact (pos t) (omega arith)) (omega (arith, mul-le-mul hz ht))
 
@@ -49,13 +49,13 @@ module _ (A B : ℕ) (z w : ℤ) (t : ℕ) (hz : natAbs z ≤ A) (hw : natAbs w 
 
 -- square × t + linear, in the middle of an arc's evaluation
 abbrev pub mostMiddle : ℕ
-mostMiddle = mostSquare * 600 + mostLinear
+mostMiddle = mostSquare * lastSecond + mostLinear
 
 -- ---- by whether the coefficient of t² is 0
 pub number-zero : (x : ℤ) → T (isNumber (pos 0) x) → x ≡ pos 0
 number-zero x h = let b = between (pos 0) (pos 0) x h in ≤ℤ-antisym (b .to) (b .from)
 
-module _ (p : WholePiece) (z : PieceSizes p) (t : ℕ) (ht : t ≤ 600) where
+module _ (p : WholePiece) (z : PieceSizes p) (t : ℕ) (ht : t ≤ lastSecond) where
   straight-height : p .square ≡ pos 0 → p .linear *ℤ pos t +ℤ p .constant ≡ pieceHeight p t 1
   straight-height e = sym (modulo (pos t *ℤ pos t) e (ring (t ∷ []) (p .square ∷ p .linear ∷ p .constant ∷ []) (λ v. search quote depth 20) tt))
 

@@ -13,6 +13,7 @@ use Rattle.question.specs.declared.Settings.{Settings}
 use Rattle.question.specs.declared.Question.{Question}
 use Rattle.question.specs.declared.Checked.{Checked}
 use Rattle.question.specs.Refusals.{Check, check, firstRefusal, plainChecks, refusal}
+use Rattle.pieces.specs.Pieces.{lastSecond}
 use Rattle.screen.specs.Points.{pointRefusal}
 
 pub accepted-first : (l r : List Check) → firstRefusal l ≡ Checked.Accepted → firstRefusal (l ++ r) ≡ firstRefusal r
@@ -43,24 +44,24 @@ both-accept l r e = go (firstRefusal l) refl
 
 module _ (x : Encounter) (y : Settings) (z : Question) (t : ℕ) where
   -- accepted: the question is accepted, and the second is at most 600
-  pub accepted-point : pointRefusal x y z t ≡ Checked.Accepted → (refusal x y z ≡ Checked.Accepted) × (t ≤ 600)
+  pub accepted-point : pointRefusal x y z t ≡ Checked.Accepted → (refusal x y z ≡ Checked.Accepted) × (t ≤ lastSecond)
   unfolding pointRefusal refusal
-  accepted-point e = let b = both-accept (plainChecks x y z) (check 6 (leb t 600) ∷ []) e in (b .0, within (leb t 600) refl (b .1))
+  accepted-point e = let b = both-accept (plainChecks x y z) (check 6 (leb t lastSecond) ∷ []) e in (b .0, within (leb t lastSecond) refl (b .1))
     where
-      within : (b : Bool) → leb t 600 ≡ b → cond b Checked.Accepted (Checked.Refused 6) ≡ Checked.Accepted → t ≤ 600
-      within true e f = leb-true t 600 e
+      within : (b : Bool) → leb t lastSecond ≡ b → cond b Checked.Accepted (Checked.Refused 6) ≡ Checked.Accepted → t ≤ lastSecond
+      within true e f = leb-true t lastSecond e
       within false e f = let z : _≡_ {A = ℕ} 0 1 = cc in absurd (omega arith)
 
-  pub in-time : refusal x y z ≡ Checked.Accepted → t ≤ 600 → pointRefusal x y z t ≡ Checked.Accepted
+  pub in-time : refusal x y z ≡ Checked.Accepted → t ≤ lastSecond → pointRefusal x y z t ≡ Checked.Accepted
   unfolding pointRefusal refusal
-  in-time e h = accepted-first (plainChecks x y z) (check 6 (leb t 600) ∷ []) e ∙ picks-yes (leb t 600) Checked.Accepted (Checked.Refused 6) (le-leb t 600 h)
+  in-time e h = accepted-first (plainChecks x y z) (check 6 (leb t lastSecond) ∷ []) e ∙ picks-yes (leb t lastSecond) Checked.Accepted (Checked.Refused 6) (le-leb t lastSecond h)
 
   -- an accepted question's second above 600 gets 6
-  pub late-second : refusal x y z ≡ Checked.Accepted → 600 < t → pointRefusal x y z t ≡ Checked.Refused 6
+  pub late-second : refusal x y z ≡ Checked.Accepted → lastSecond < t → pointRefusal x y z t ≡ Checked.Refused 6
   unfolding pointRefusal refusal
-  late-second e h = accepted-first (plainChecks x y z) (check 6 (leb t 600) ∷ []) e ∙ picks-no (leb t 600) Checked.Accepted (Checked.Refused 6) (lt-leb t 600 h)
+  late-second e h = accepted-first (plainChecks x y z) (check 6 (leb t lastSecond) ∷ []) e ∙ picks-no (leb t lastSecond) Checked.Accepted (Checked.Refused 6) (lt-leb t lastSecond h)
 
   -- a refused question keeps its number, whatever the second
   pub refused-point : (n : ℕ) → refusal x y z ≡ Checked.Refused n → pointRefusal x y z t ≡ Checked.Refused n
   unfolding pointRefusal refusal
-  refused-point n e = refused-first n (plainChecks x y z) (check 6 (leb t 600) ∷ []) e
+  refused-point n e = refused-first n (plainChecks x y z) (check 6 (leb t lastSecond) ∷ []) e

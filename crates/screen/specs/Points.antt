@@ -12,7 +12,7 @@ use Rattle.question.specs.declared.Question.{Question}
 use Rattle.question.specs.declared.Checked.{Checked}
 use Rattle.question.specs.Refusals.{check, firstRefusal, plainChecks}
 use Rattle.sensed.specs.Sensed.{sensedQuestion}
-use Rattle.pieces.specs.Pieces.{heightAfterDelay, pieceAt, pieceHeight}
+use Rattle.pieces.specs.Pieces.{heightAfterDelay, pieceAt, lastSecond, pieceHeight}
 use Rattle.screen.specs.declared.Piece.{Piece}
 use Rattle.screen.specs.declared.ScreenPoint.{ScreenPoint}
 use Rattle.screen.specs.declared.PointAnswer.{PointAnswer}
@@ -34,7 +34,7 @@ pointAt s t = record { time = float (pos t); height = float (drawnHeight s t) }
 
 -- "A second above 600 gets 6; the other refusals are those of the entry for plain numbers", which tests 6 last.
 unfoldable pub pointRefusal : Encounter → Settings → Question → ℕ → Checked
-pointRefusal x y z t = firstRefusal (plainChecks x y z ++ (check 6 (leb t 600) ∷ []))
+pointRefusal x y z t = firstRefusal (plainChecks x y z ++ (check 6 (leb t lastSecond) ∷ []))
 
 abbrev pub checkedPoint : Checked → ScreenPoint → PointAnswer
 checkedPoint Checked.Accepted p = PointAnswer.Drawn p

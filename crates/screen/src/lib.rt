@@ -2,6 +2,7 @@
 ghost use mathlib.Core.Path.{_≡_};
 ghost use Prim.Native.Nat.{_≤_};
 ghost use Rattle.path.specs.Sizes.{Sizes};
+ghost use Rattle.pieces.specs.Pieces.{lastSecond};
 ghost use Rattle.pieces.specs.PieceSizes.{PieceSizes};
 ghost use Rattle.screen.specs.Drawings.{floatPiece, drawnPiece, content, drawn, drawnPieces, screenDrawing};
 ghost use Rattle.screen.specs.Points.{evaluated, pointAt, pointRefusal, screenPoint};
@@ -119,7 +120,7 @@ fn evaluate(piece: Piece, t: f64) -> f64
 
 fn point_at(s: SensedQuestion, second: u64) -> ScreenPoint
     requires { ⌜ Sizes s ⌝ }
-    requires { ⌜ second ≤ 600 ⌝ }
+    requires { ⌜ second ≤ lastSecond ⌝ }
     ensures { λ r. ⌜ r ≡ pointAt s second ⌝ }
 {
     let piece = float_piece(piece_at(s, second));

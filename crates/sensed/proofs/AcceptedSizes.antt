@@ -8,6 +8,7 @@ use lib.Dec.{T}
 use lib.Ieee.Fits.{and-l, and-r}
 use lib.IntN.{ℤ, pos, negℤ, _-ℤ_}
 use lib.Signed.{_≤ℤ_, leZ}
+use Rattle.limits.specs.Limits.{maxHeight, maxClosingSpeed, maxSpeed, maxRadius, maxHalfHeight, minStrength, maxStrength, strengthWithin, maxDelayAcceleration, targetWithin, maxDelay, maxLimit, limitWithin, noLimit}
 use Rattle.integers.specs.Extremes.{max0}
 use Rattle.integers.proofs.Quotation.{quote}
 use Rattle.integers.proofs.Certificates.{by≤, gap≤, _⊞_, nat≤}
@@ -16,13 +17,12 @@ use Rattle.advisory.specs.declared.Sense.{Sense}
 use Rattle.advisory.specs.declared.Sense.the-variants.{Climb, Descend}
 use Rattle.advisory.specs.Sign.{sensed}
 use Rattle.path.specs.declared.Limit.the-variants.{Unlimited, Upto}
-use Rattle.path.specs.Sizes.{LimitSize, Sizes, UpperSizes}
+use Rattle.path.specs.Sizes.{LimitSize, maxSpeedDifference, Sizes, UpperSizes}
 use Rattle.question.specs.declared.Encounter.{Encounter}
 use Rattle.question.specs.declared.Settings.{Settings}
 use Rattle.question.specs.declared.Question.{Question}
 use Rattle.question.specs.declared.Checked.{Checked}
-use Rattle.question.specs.Limits.{speedWithin, strengthWithin, limitWithin}
-use Rattle.question.specs.Refusals.{isNumber, senseOf, twoSided, noLimit, upperZero, upperRanges, strengthsOrdered, targetsOrdered, upperWithin, refusal}
+use Rattle.question.specs.Refusals.{isNumber, senseOf, twoSided, upperZero, upperRanges, strengthsOrdered, targetsOrdered, upperWithin, refusal}
 use Rattle.question.proofs.WithinLimits.{Between, between, or-else, within-limits}
 use Rattle.sensed.specs.Sensed.{limitOf, sensedQuestion}
 
@@ -38,14 +38,14 @@ sensed-between Descend B z h = record {
 }
 
 -- the difference of two speeds
-pub speed-between : (x y : ℤ) → Between (negℤ (pos 10000)) (pos 10000) x → Between (negℤ (pos 10000)) (pos 10000) y → Between (negℤ (pos 20000)) (pos 20000) (x -ℤ y)
+pub speed-between : (x y : ℤ) → Between (negℤ (pos maxSpeed)) (pos maxSpeed) x → Between (negℤ (pos maxSpeed)) (pos maxSpeed) y → Between (negℤ (pos maxSpeedDifference)) (pos maxSpeedDifference) (x -ℤ y)
 speed-between x y h k = record {
   from = by≤ [] (x ∷ y ∷ []) (gap≤ (h .from) ⊞ gap≤ (k .to)) (λ v. search quote depth 20) tt;
   to = by≤ [] (x ∷ y ∷ []) (gap≤ (h .to) ⊞ gap≤ (k .from)) (λ v. search quote depth 20) tt;
 }
 
 -- w × (x − z) − w × (y − z) is w × (x − y)
-change-size : (w : Sense) (x y z : ℤ) → Between (negℤ (pos 10000)) (pos 10000) x → Between (negℤ (pos 10000)) (pos 10000) y → (sensed w (x -ℤ z) -ℤ sensed w (y -ℤ z)) ≤ℤ pos 20000
+change-size : (w : Sense) (x y z : ℤ) → Between (negℤ (pos maxSpeed)) (pos maxSpeed) x → Between (negℤ (pos maxSpeed)) (pos maxSpeed) y → (sensed w (x -ℤ z) -ℤ sensed w (y -ℤ z)) ≤ℤ pos maxSpeedDifference
 change-size Climb x y z h k = by≤ [] (x ∷ y ∷ z ∷ []) (gap≤ (h .to) ⊞ gap≤ (k .from)) (λ v. search quote depth 20) tt
 change-size Descend x y z h k = by≤ [] (x ∷ y ∷ z ∷ []) (gap≤ (h .from) ⊞ gap≤ (k .to)) (λ v. search quote depth 20) tt
 
@@ -58,7 +58,7 @@ limit-size l t = go (leZ noLimit l) refl
     go : (b : Bool) → leZ noLimit l ≡ b → LimitSize (cond b Unlimited (Upto (max0 l)))
     go true e = tt
     go false e = ⊎-elim
-        (λ h. max0-le l 600 (between (pos 0) (pos 600) l h .to))
+        (λ h. max0-le l maxLimit (between (pos 0) (pos maxLimit) l h .to))
         (λ h. absurd (subst T e (between noLimit noLimit l h .from .le)))
         (or-else (limitWithin l) (isNumber noLimit l) t)
 
@@ -68,25 +68,25 @@ module _ (x : Encounter) (y : Settings) (z : Question) (e : refusal x y z ≡ Ch
   accepted-sizes =
       let l = within-limits x y z e in
       let w = senseOf z in
-      let wh = sensed-between w 480000 (x .height) (l .height) in
-      let u = sensed-between w 20000 (x .speed -ℤ x .«intruder_speed») (speed-between (x .speed) (x .«intruder_speed») (l .speed) (l .intruder)) in
-      let q = sensed-between w 20000 (z .target -ℤ x .«intruder_speed») (speed-between (z .target) (x .«intruder_speed») (l .target) (l .intruder)) in
+      let wh = sensed-between w maxHeight (x .height) (l .height) in
+      let u = sensed-between w maxSpeedDifference (x .speed -ℤ x .«intruder_speed») (speed-between (x .speed) (x .«intruder_speed») (l .speed) (l .intruder)) in
+      let q = sensed-between w maxSpeedDifference (z .target -ℤ x .«intruder_speed») (speed-between (z .target) (x .«intruder_speed») (l .target) (l .intruder)) in
       record {
         r-lo = l .distance .from;
         r-hi = l .distance .to;
-        c-hi = max0-le (x .«closing_speed») 150000 (l .closing .to);
-        p-hi = max0-le (y .radius) 60000 (l .radius .to);
-        k-hi = max0-le (y .«half_height») 12000 (l .half .to);
+        c-hi = max0-le (x .«closing_speed») maxClosingSpeed (l .closing .to);
+        p-hi = max0-le (y .radius) maxRadius (l .radius .to);
+        k-hi = max0-le (y .«half_height») maxHalfHeight (l .half .to);
         wh-lo = wh .from;
         wh-hi = wh .to;
         u-lo = u .from;
         u-hi = u .to;
         q-lo = q .from;
         q-hi = q .to;
-        a-lo = at-least 1 (z .strength) (l .strength .from);
-        a-hi = max0-le (z .strength) 2000 (l .strength .to);
-        d-hi = max0-le (z .delay) 60 (l .delay .to);
-        e-hi = max0-le (y .«delay_acceleration») 2000 (l .acceleration .to);
+        a-lo = at-least minStrength (z .strength) (l .strength .from);
+        a-hi = max0-le (z .strength) maxStrength (l .strength .to);
+        d-hi = max0-le (z .delay) maxDelay (l .delay .to);
+        e-hi = max0-le (y .«delay_acceleration») maxDelayAcceleration (l .acceleration .to);
         limit-hi = limit-size (z .limit) (l .limit);
       }
 
@@ -98,12 +98,12 @@ module _ (x : Encounter) (y : Settings) (z : Question) (e : refusal x y z ≡ Ch
       let ranges = upperRanges z in
       let orders = strengthsOrdered z && targetsOrdered z in
       let t = and-l ranges orders (subst (λ (b : Bool). T (cond b (upperWithin z) (upperZero z))) two (l .upper)) in
-      let target = between (negℤ (pos 10000)) (pos 10000) (z .«upper_target») (and-l (speedWithin (z .«upper_target»)) (strengthWithin (z .«upper_strength»)) t) in
-      let strength = between (pos 1) (pos 2000) (z .«upper_strength») (and-r (speedWithin (z .«upper_target»)) (strengthWithin (z .«upper_strength»)) t) in
-      let q = sensed-between w 20000 (z .«upper_target» -ℤ x .«intruder_speed») (speed-between (z .«upper_target») (x .«intruder_speed») target (l .intruder)) in
+      let target = between (negℤ (pos maxSpeed)) (pos maxSpeed) (z .«upper_target») (and-l (targetWithin (z .«upper_target»)) (strengthWithin (z .«upper_strength»)) t) in
+      let strength = between (pos minStrength) (pos maxStrength) (z .«upper_strength») (and-r (targetWithin (z .«upper_target»)) (strengthWithin (z .«upper_strength»)) t) in
+      let q = sensed-between w maxSpeedDifference (z .«upper_target» -ℤ x .«intruder_speed») (speed-between (z .«upper_target») (x .«intruder_speed») target (l .intruder)) in
       record {
-        b-lo = at-least 1 (z .«upper_strength») (strength .from);
-        b-hi = max0-le (z .«upper_strength») 2000 (strength .to);
+        b-lo = at-least minStrength (z .«upper_strength») (strength .from);
+        b-hi = max0-le (z .«upper_strength») maxStrength (strength .to);
         upper-q-lo = q .from;
         upper-q-hi = q .to;
         change = change-size w (z .«upper_target») (x .speed) (x .«intruder_speed») target (l .speed);

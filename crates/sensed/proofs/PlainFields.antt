@@ -7,9 +7,12 @@ use lib.Signed.{_≤ℤ_, leZ-yes}
 use mir.Syntax.{w64}
 use mir.Val.{toZ, ofZ}
 use mir.Facts.{toZ-ofZ}
+use Rattle.limits.specs.Limits.{maxDistance, maxHeight, maxClosingSpeed, maxSpeed, maxRadius, maxHalfHeight, maxStrength, maxDelayAcceleration, maxDelay, noLimit}
 use Rattle.integers.proofs.Machine.{Reading, bounded, bounded-non-negative, fits}
+use Rattle.integers.specs.Extremes.{max0}
 use Rattle.integers.proofs.Laws.{≤ℤ-trans}
 use Rattle.advisory.specs.Sign.{sensed}
+use Rattle.path.specs.Sizes.{maxSpeedDifference}
 use Rattle.question.specs.declared.Encounter.{Encounter}
 use Rattle.question.specs.declared.Settings.{Settings}
 use Rattle.question.specs.declared.Question.{Question}
@@ -41,19 +44,19 @@ pub record Exact (x : Encounter) (y : Settings) (z : Question) : Type 0 where
 
 module _ (x : Encounter) (y : Settings) (z : Question) (e : refusal x y z ≡ Checked.Accepted) where
   abbrev pub read-height : Reading (x .height)
-  read-height = let b = within-limits x y z e .height in bounded (x .height) 480000 (b .from) (b .to)
+  read-height = let b = within-limits x y z e .height in bounded (x .height) maxHeight (b .from) (b .to)
 
   abbrev pub read-speed : Reading (x .speed)
-  read-speed = let b = within-limits x y z e .speed in bounded (x .speed) 10000 (b .from) (b .to)
+  read-speed = let b = within-limits x y z e .speed in bounded (x .speed) maxSpeed (b .from) (b .to)
 
   abbrev pub read-intruder : Reading (x .«intruder_speed»)
-  read-intruder = let b = within-limits x y z e .intruder in bounded (x .«intruder_speed») 10000 (b .from) (b .to)
+  read-intruder = let b = within-limits x y z e .intruder in bounded (x .«intruder_speed») maxSpeed (b .from) (b .to)
 
   abbrev pub read-target : Reading (z .target)
-  read-target = let b = within-limits x y z e .target in bounded (z .target) 10000 (b .from) (b .to)
+  read-target = let b = within-limits x y z e .target in bounded (z .target) maxSpeed (b .from) (b .to)
 
   abbrev pub read-upper-target : Reading (z .«upper_target»)
-  read-upper-target = let b = upper-between x y z e .0 in bounded (z .«upper_target») 10000 (b .from) (b .to)
+  read-upper-target = let b = upper-between x y z e .0 in bounded (z .«upper_target») maxSpeed (b .from) (b .to)
 
   pub exact-fields : Exact x y z
   exact-fields =
@@ -61,15 +64,15 @@ module _ (x : Encounter) (y : Settings) (z : Question) (e : refusal x y z ≡ Ch
       let u = upper-between x y z e in
       let m = limit-between x y z e in
       record {
-        distance = exact 12000000 (x .distance) tt (l .distance);
-        closing = exact-natural 150000 (x .«closing_speed») tt (l .closing .from) (l .closing .to);
-        radius = exact-natural 60000 (y .radius) tt (l .radius .from) (l .radius .to);
-        half = exact-natural 12000 (y .«half_height») tt (≤ℤ-trans (leZ-yes tt) (l .half .from)) (l .half .to);
-        acceleration = exact-natural 2000 (y .«delay_acceleration») tt (l .acceleration .from) (l .acceleration .to);
-        strength = exact-natural 2000 (z .strength) tt (≤ℤ-trans (leZ-yes tt) (l .strength .from)) (l .strength .to);
-        upper = exact-natural 2000 (z .«upper_strength») tt (u .1 .from) (u .1 .to);
-        delay = exact-natural 60 (z .delay) tt (l .delay .from) (l .delay .to);
-        limit = exact-natural 65535 (z .limit) tt (m .from) (m .to);
+        distance = exact maxDistance (x .distance) tt (l .distance);
+        closing = exact-natural maxClosingSpeed (x .«closing_speed») tt (l .closing .from) (l .closing .to);
+        radius = exact-natural maxRadius (y .radius) tt (l .radius .from) (l .radius .to);
+        half = exact-natural maxHalfHeight (y .«half_height») tt (≤ℤ-trans (leZ-yes tt) (l .half .from)) (l .half .to);
+        acceleration = exact-natural maxDelayAcceleration (y .«delay_acceleration») tt (l .acceleration .from) (l .acceleration .to);
+        strength = exact-natural maxStrength (z .strength) tt (≤ℤ-trans (leZ-yes tt) (l .strength .from)) (l .strength .to);
+        upper = exact-natural maxStrength (z .«upper_strength») tt (u .1 .from) (u .1 .to);
+        delay = exact-natural maxDelay (z .delay) tt (l .delay .from) (l .delay .to);
+        limit = exact-natural (max0 noLimit) (z .limit) tt (m .from) (m .to);
       }
 
 -- ---- the sensed heights and speeds, stored and read back
@@ -83,11 +86,11 @@ pub exact-motion : (x : Encounter) (y : Settings) (z : Question) → refusal x y
 exact-motion x y z e =
     let l = within-limits x y z e in
     let w = senseOf z in
-    let between : (v : ℤ) → Between (negℤ (pos 10000)) (pos 10000) v → Between (negℤ (pos 20000)) (pos 20000) (sensed w (v -ℤ x .«intruder_speed»)) =
-    λ v h. sensed-between w 20000 (v -ℤ x .«intruder_speed») (speed-between v (x .«intruder_speed») h (l .intruder)) in
+    let between : (v : ℤ) → Between (negℤ (pos maxSpeed)) (pos maxSpeed) v → Between (negℤ (pos maxSpeedDifference)) (pos maxSpeedDifference) (sensed w (v -ℤ x .«intruder_speed»)) =
+    λ v h. sensed-between w maxSpeedDifference (v -ℤ x .«intruder_speed») (speed-between v (x .«intruder_speed») h (l .intruder)) in
     record {
-      level = exact 480000 (sensed w (x .height)) tt (sensed-between w 480000 (x .height) (l .height));
-      speed = exact 20000 (sensed w (x .speed -ℤ x .«intruder_speed»)) tt (between (x .speed) (l .speed));
-      target = exact 20000 (sensed w (z .target -ℤ x .«intruder_speed»)) tt (between (z .target) (l .target));
-      upper = exact 20000 (sensed w (z .«upper_target» -ℤ x .«intruder_speed»)) tt (between (z .«upper_target») (upper-between x y z e .0));
+      level = exact maxHeight (sensed w (x .height)) tt (sensed-between w maxHeight (x .height) (l .height));
+      speed = exact maxSpeedDifference (sensed w (x .speed -ℤ x .«intruder_speed»)) tt (between (x .speed) (l .speed));
+      target = exact maxSpeedDifference (sensed w (z .target -ℤ x .«intruder_speed»)) tt (between (z .target) (l .target));
+      upper = exact maxSpeedDifference (sensed w (z .«upper_target» -ℤ x .«intruder_speed»)) tt (between (z .«upper_target») (upper-between x y z e .0));
     }

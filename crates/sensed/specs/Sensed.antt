@@ -2,6 +2,7 @@
 use mathlib.Core.Bool.{cond}
 use lib.IntN.{ℤ, _-ℤ_}
 use lib.Signed.{leZ}
+use Rattle.limits.specs.Limits.{noLimit}
 use Rattle.integers.specs.Extremes.{max0}
 use Rattle.advisory.specs.Sign.{sensed}
 use Rattle.path.specs.declared.Limit.{Limit}
@@ -11,7 +12,7 @@ use Rattle.question.specs.declared.Encounter.{Encounter}
 use Rattle.question.specs.declared.Settings.{Settings}
 use Rattle.question.specs.declared.Question.{Question}
 use Rattle.sensed.specs.declared.Motion.{Motion}
-use Rattle.question.specs.Refusals.{senseOf, noLimit}
+use Rattle.question.specs.Refusals.{senseOf}
 
 -- "Limit 65,535 means none."
 abbrev pub limitOf : ℤ → Limit

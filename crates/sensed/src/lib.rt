@@ -1,16 +1,16 @@
 // An accepted question in its sense. `specs/` says what that is.
 ghost use mathlib.Core.Path.{_≡_};
-ghost use Prim.Native.Nat.{_≤_};
+ghost use Prim.Native.Nat.{_<_, _^_};
 ghost use lib.IntN.{natAbs};
 ghost use Rattle.advisory.specs.Sign.{sensed};
 ghost use Rattle.question.specs.declared.Checked.the-variants.{Accepted};
 ghost use Rattle.question.specs.Refusals.{refusal};
 ghost use Rattle.sensed.specs.Sensed.{limitOf, sensedMotion, sensedQuestion};
 use advisory::Sense;
+use limits::NO_LIMIT;
 use path::Limit;
 use path::SensedQuestion;
 use question::Encounter;
-use question::NO_LIMIT;
 use question::Question;
 use question::Settings;
 use question::sense_of;
@@ -26,7 +26,7 @@ struct Motion {
 
 // w × x.
 fn in_sense(sense: Sense, x: i64) -> i64
-    requires { ⌜ natAbs x ≤ 1000000 ⌝ }
+    requires { ⌜ natAbs x < 2 ^ 63 ⌝ }
     ensures { λ r. ⌜ r ≡ sensed sense x ⌝ }
 {
     match sense {

@@ -1,7 +1,7 @@
+pub mod KeptBytes
 pub mod AnswersAhead
 pub mod AnswerBound
 pub mod RecordsInOrder
-pub mod PlainAnswers
 pub mod WholeSheetRefusals
-pub mod AcceptedFits
+pub mod OutcomeRecords
 pub mod ExampleHolds

@@ -1,2 +1,3 @@
 pub mod WholeSheet
 pub mod Example
+pub mod Kept

@@ -1,12 +1,14 @@
 // A question sheet, its records answered in order into an area that the caller lends. `specs/` says what the answer and each outcome are.
 ghost use mathlib.Core.Path.{_≡_};
-ghost use Prim.Native.Nat.{_≤_};
+ghost use Prim.Native.Nat.{_+_, _≤_};
 ghost use lib.Dec.{leb};
 ghost use lib.ListN.{length};
 ghost use lib.Seq.{sets};
 ghost use Rattle.question.specs.declared.Checked.the-variants.{Accepted};
 ghost use Rattle.record.specs.SheetCheck.{sheetCheck};
+ghost use Rattle.reply.specs.AnswerBytes.{replyBytes};
 ghost use Rattle.sheet.specs.WholeSheet.{sheetAnswer, outcome, areaAfter, outcomeRecord};
+ghost use Rattle.sheet.specs.Kept.{kept, needed};
 use answering::reply_to;
 use answering::starting_state;
 use answering::state_after;
@@ -14,6 +16,7 @@ use question::Checked;
 use record::check_sheet;
 use record::next_at;
 use record::record_at;
+use reply::Reply;
 use reply::reply_length;
 use reply::write_reply;
 
@@ -26,24 +29,36 @@ pub enum Outcome {
 // No accepted sheet's answer is longer (`sheet-answer-short`).
 const LONGEST_ANSWER: usize = 26624;
 
-// The length of the whole answer.
-fn sheet_answer_length(sheet: &[u8]) -> usize
-    requires { ⌜ sheetCheck (now sheet) ≡ Accepted ⌝ }
-    ensures { λ r. ⌜ r ≡ length (sheetAnswer (now (sheet .entry))) ⌝ }
+// A reply's bytes into the area, or none where the walk only counts.
+fn write_if(writing: bool, area: &mut [u8], at: usize, reply: Reply)
+    requires { ⌜ needed writing (at + length (replyBytes reply)) ≤ length (now area) ⌝ }
+    ensures { λ _. ⌜ now (area .exit) ≡ sets (now (area .entry)) at (kept writing (replyBytes reply)) ⌝ }
 {
-    let mut at: usize = 0;
+    if writing {
+        write_reply(area, at, reply);
+    }
+}
+
+// The walk over a sheet's records: the length of its answer, whose bytes are written or only counted.
+fn walk_sheet(sheet: &[u8], area: &mut [u8], writing: bool) -> usize
+    requires { ⌜ (sheetCheck (now sheet) ≡ Accepted) × (needed writing (length (sheetAnswer (now sheet))) ≤ length (now area)) ⌝ }
+    ensures { λ r. ⌜ (r ≡ length (sheetAnswer (now (sheet .entry)))) × (now (area .exit) ≡ sets (now (area .entry)) 0 (kept writing (sheetAnswer (now (sheet .entry))))) ⌝ }
+{
+    let mut place: usize = 0;
     let mut total: usize = 0;
     let mut state = starting_state();
-    while at < sheet.len() {
-        let record = record_at(sheet, at);
-        total = total + reply_length(reply_to(state, record));
+    while place < sheet.len() {
+        let record = record_at(sheet, place);
+        let answered = reply_to(state, record);
+        write_if(writing, area, total, answered);
+        total = total + reply_length(answered);
         state = state_after(state, record);
-        at = next_at(sheet, at);
+        place = next_at(sheet, place);
     }
     total
 }
 
-// Whether an area of so many bytes holds the whole answer. Only one that could be too short costs a pass over the questions.
+// Whether an area of so many bytes holds the whole answer. Only one that could be too short costs a walk.
 fn answer_fits(sheet: &[u8], room: usize) -> bool
     requires { ⌜ sheetCheck (now sheet) ≡ Accepted ⌝ }
     ensures { λ r. ⌜ r ≡ leb (length (sheetAnswer (now (sheet .entry)))) room ⌝ }
@@ -51,26 +66,8 @@ fn answer_fits(sheet: &[u8], room: usize) -> bool
     if LONGEST_ANSWER <= room {
         return true;
     }
-    sheet_answer_length(sheet) <= room
-}
-
-// The answer's bytes, into an area that holds them; and their number.
-fn write_sheet_answer(sheet: &[u8], area: &mut [u8]) -> usize
-    requires { ⌜ (sheetCheck (now sheet) ≡ Accepted) × (length (sheetAnswer (now sheet)) ≤ length (now area)) ⌝ }
-    ensures { λ r. ⌜ (r ≡ length (sheetAnswer (now (sheet .entry)))) × (now (area .exit) ≡ sets (now (area .entry)) 0 (sheetAnswer (now (sheet .entry)))) ⌝ }
-{
-    let mut place: usize = 0;
-    let mut written: usize = 0;
-    let mut state = starting_state();
-    while place < sheet.len() {
-        let record = record_at(sheet, place);
-        let answered = reply_to(state, record);
-        write_reply(area, written, answered);
-        written = written + reply_length(answered);
-        state = state_after(state, record);
-        place = next_at(sheet, place);
-    }
-    written
+    let mut nothing = [0u8; 1];
+    walk_sheet(sheet, &mut nothing, false) <= room
 }
 
 // The entry: any sheet, any area.
@@ -80,7 +77,7 @@ pub fn answer_sheet(sheet: &[u8], area: &mut [u8]) -> Outcome
     match check_sheet(sheet) {
         Checked::Refused(number) => Outcome::Refused(number),
         Checked::Accepted => if answer_fits(sheet, area.len()) {
-            Outcome::Accepted(write_sheet_answer(sheet, area))
+            Outcome::Accepted(walk_sheet(sheet, area, true))
         } else {
             Outcome::Refused(13)
         },

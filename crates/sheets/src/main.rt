@@ -1,11 +1,10 @@
-// Answers each sheet whose file an argument names: a line with the name, and the bytes that the program `lifgorund` would write, in hex.
+// Answers each sheet whose file an argument names: a line with the name, and the bytes that the program `lifgorund` would write, in hex: the rooms and
+// the answering are those of that program.
 // `cargo run --profile checked --bin sheets ../crates/sheets`, run in `compare/`, writes the files, `args` and `stdout`: the answers are the independent implementation's.
-use sheet::Outcome;
-use sheet::answer_sheet;
+use program::program_output;
+use program::read_room;
 
 const STANDARD_OUTPUT: i32 = 1;
-
-const SHEET_REFUSED: u8 = 69;
 
 fn print_byte(byte: u8) {
     io::print_hex(STANDARD_OUTPUT, byte as u64, 2);
@@ -19,23 +18,13 @@ fn print_bytes(bytes: &[u8]) {
     }
 }
 
-fn print_answer(sheet: &[u8], area: &mut [u8]) {
-    match answer_sheet(sheet, area) {
-        Outcome::Accepted(written) => {
-            print_bytes(&area[..written]);
-        }
-        Outcome::Refused(number) => {
-            print_byte(SHEET_REFUSED);
-            print_byte(number);
-        }
-    }
-}
-
 fn answer_file(file: i32) {
-    let mut sheet = [0u8; 8193];
-    let mut area = [0u8; 65536];
-    let length = io::read_full(file, &mut sheet);
-    print_answer(&sheet[..length], &mut area);
+    let mut sheet = read_room();
+    let read = io::read_full(file, &mut sheet);
+    let output = program_output(&sheet[..read]);
+    let area = output.area;
+    let length = output.length;
+    print_bytes(&area[..length]);
 }
 
 fn answer_argument(k: usize) {

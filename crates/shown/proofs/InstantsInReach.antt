@@ -7,6 +7,7 @@ use Prim.Native.Nat.{_+_, _*_, _<_, _≤_}
 use native.Mathlib.Nat.{mul-le-mul}
 use native.Mathlib.Omega.{arith}
 use lib.IntN.{ℤ, pos, negsuc, negℤ}
+use Rattle.limits.specs.Limits.{maxDelay}
 use Rattle.integers.specs.Extremes.{max0}
 use Rattle.integers.proofs.Quotation.{quote}
 use Rattle.integers.proofs.Certificates.{by≤, gap≤, _⊞_, _⊠_, 0≤pos, pos≤}
@@ -22,7 +23,7 @@ use Rattle.path.specs.declared.Side.the-variants.{Lower, Upper}
 use Rattle.path.specs.Paths.{u-d}
 use Rattle.path.specs.Window.{windowEnd}
 use Rattle.path.specs.Instants.{Among, listed, turningInstant, pathInstants, instants}
-use Rattle.path.specs.Sizes.{Sizes, Sized, InReach, searchEnd}
+use Rattle.path.specs.Sizes.{maxSpeedAfterDelay, Sizes, Sized, farthest, InReach, searchEnd}
 use Rattle.path.proofs.Membership.{among-one, among-either}
 use Rattle.path.proofs.WindowEnds.{endless-start}
 use Rattle.path.proofs.SideSizes.{sizes-of}
@@ -37,10 +38,10 @@ module _ (s : SensedQuestion) (z : Sizes s) where
   delay-near = second-near (s .delay) (omega (arith, z .d-hi))
 
   -- -u_d is e*d - u
-  pub back-size : max0 (negℤ (u-d s)) ≤ 140000
-  back-size = max0-le (negℤ (u-d s)) 140000
+  pub back-size : max0 (negℤ (u-d s)) ≤ maxSpeedAfterDelay
+  back-size = max0-le (negℤ (u-d s)) maxSpeedAfterDelay
       (by≤ (s .«delay_acceleration» ∷ s .delay ∷ []) (s .speed ∷ [])
-      (gap≤ (z .u-lo) ⊞ 0≤pos 60 ⊠ gap≤ (pos≤ (z .e-hi)) ⊞ 0≤pos (s .«delay_acceleration») ⊠ gap≤ (pos≤ (z .d-hi))) (λ v. search quote depth 20) tt)
+      (gap≤ (z .u-lo) ⊞ 0≤pos maxDelay ⊠ gap≤ (pos≤ (z .e-hi)) ⊞ 0≤pos (s .«delay_acceleration») ⊠ gap≤ (pos≤ (z .d-hi))) (λ v. search quote depth 20) tt)
 
   pub turning-near : Near (s .delay * s .strength + max0 (negℤ (u-d s)) ÷ s .strength)
   turning-near = record {
@@ -70,7 +71,7 @@ pub end-reach : (side : Side) (s : SensedQuestion) → Sized side s → (t : Ins
 end-reach side s z t e = side-reach side (windowEnd-near s (sizes-of side s z) t (subst (λ (m : Moment). Among t (listed m)) (sym e) (inl refl)))
 
 -- ---- the whole second that a search finds
-last-small : (side : Side) (s : SensedQuestion) → Sized side s → searchEnd side s ≤ 200480000
+last-small : (side : Side) (s : SensedQuestion) → Sized side s → searchEnd side s ≤ farthest Upper
 last-small Lower s z = omega (arith, z .d-hi)
 last-small Upper s z = omega arith
 

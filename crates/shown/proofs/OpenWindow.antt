@@ -33,7 +33,7 @@ use Rattle.path.proofs.Risen.{risen}
 use Rattle.shown.specs.TimeShown.{isNever, approaches, searches, searched, shownFrom, timeShown}
 use Rattle.shown.specs.declared.LowestPoint.{LowestPoint}
 use Rattle.shown.specs.declared.LowestPoint.the-variants.{Passed, Inside, Beyond}
-use Rattle.shown.specs.Search.{Opened, StartTried, shownAt, lowestBy, lowestPoint}
+use Rattle.shown.specs.inner.Steps.{Opened, StartTried, shownAt, lowestBy, lowestPoint}
 use Rattle.shown.proofs.Steps.{yes, no, true-of, false-of, inside, outside-clear, hit, miss, no-search, only-search, ended, searches-is}
 
 -- the turning instant of a question, if there is one

@@ -25,7 +25,7 @@ use Rattle.path.proofs.WindowEnds.{between-window, endless-start-zero, endless-
 use Rattle.path.proofs.SideProfiles.{Approaches, reaches-end}
 use Rattle.path.proofs.WholeSeconds.{none-before}
 use Rattle.shown.specs.TimeShown.{firstOf, firstSecond, orElse, isNever, approaches, searches, secondsTried, searched, shownFrom}
-use Rattle.shown.specs.Search.{StartTried, Tried, Searchable, firstReached}
+use Rattle.shown.specs.inner.Steps.{StartTried, Tried, Searchable, firstReached}
 
 -- ---- tests as equations
 pub yes : (b : Bool) → b ≡ true → T b

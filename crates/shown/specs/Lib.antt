@@ -1,3 +1,3 @@
 pub mod TimeRule
 pub mod TimeShown
-pub mod Search
+pub mod inner

@@ -1,4 +1,5 @@
--- The time shown, in the form that computes: `proofs/RulePicks.antt` shows that it is the moment that the rule of `TimeRule` picks.
+-- The time shown, in a form that computes. What is believed is the rule, in `TimeRule`; that this form is the moment that the rule picks is proved:
+-- `rule-picks`, in `proofs/RulePicks.antt`.
 use mathlib.Core.Bool.{Bool, true, false, _&&_}
 use mathlib.Core.List.{List, [], _∷_}
 use Prim.Native.Nat.{ℕ, zero, suc, _^_}

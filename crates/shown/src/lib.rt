@@ -3,7 +3,7 @@ ghost use mathlib.Core.Path.{_≡_};
 ghost use mathlib.Core.List.{_++_};
 ghost use Rattle.instant.specs.declared.Moment.the-variants.{At, Never};
 ghost use Rattle.instant.specs.Order.{_÷_};
-ghost use Rattle.path.specs.declared.Side.the-variants.{Lower, Upper};
+ghost use Rattle.path.specs.declared.Side.the-variants.{Lower};
 ghost use Rattle.path.specs.Letters.{q, a, d};
 ghost use Rattle.path.specs.Paths.{u-d};
 ghost use Rattle.path.specs.Window.{windowStart, windowEnd, opening};
@@ -11,7 +11,7 @@ ghost use Rattle.path.specs.Conflict.{inConflict};
 ghost use Rattle.path.specs.Instants.{listed, turningInstant, pathInstants};
 ghost use Rattle.path.specs.Sizes.{Sizes, Sized, InReach, searchStart, searchEnd};
 ghost use Rattle.shown.specs.TimeShown.{approaches, searched, shownFrom, timeShown};
-ghost use Rattle.shown.specs.Search.{Opened, StartTried, Tried, shownAt, lowestPoint, Searchable, firstReached};
+ghost use Rattle.shown.specs.inner.Steps.{Opened, StartTried, Tried, shownAt, lowestPoint, Searchable, firstReached};
 use conflict::not_beyond;
 use conflict::speed_after_delay;
 use conflict::upper_target;
@@ -118,28 +118,16 @@ fn shown_at(side: Side, s: SensedQuestion, t: Instant) -> Moment
     Moment::Never
 }
 
-// The window's end is in the window where its start is. The two sides have a function each, which is called once, so that the compiler inlines it.
-fn lower_end(s: SensedQuestion) -> Moment
-    requires { ⌜ Sizes s ⌝ }
-    requires { ⌜ Opened s × Tried Lower s ⌝ }
-    ensures { λ t. ⌜ t ≡ shownFrom Lower s (listed (windowEnd s)) ⌝ }
+// The window's end is in the window where its start is; without an end the search is left.
+fn from_end(side: Side, s: SensedQuestion) -> Moment
+    requires { ⌜ Sized side s ⌝ }
+    requires { ⌜ Opened s × Tried side s ⌝ }
+    ensures { λ t. ⌜ t ≡ shownFrom side s (listed (windowEnd s)) ⌝ }
 {
     let end = window_end(s);
     match end {
-        Moment::Never => from_search(Side::Lower, s),
-        Moment::At(t) => shown_at(Side::Lower, s, t),
-    }
-}
-
-fn upper_end(s: SensedQuestion) -> Moment
-    requires { ⌜ Sized Upper s ⌝ }
-    requires { ⌜ Opened s × Tried Upper s ⌝ }
-    ensures { λ t. ⌜ t ≡ shownFrom Upper s (listed (windowEnd s)) ⌝ }
-{
-    let end = window_end(s);
-    match end {
-        Moment::Never => from_search(Side::Upper, s),
-        Moment::At(t) => shown_at(Side::Upper, s, t),
+        Moment::Never => from_search(side, s),
+        Moment::At(t) => shown_at(side, s, t),
     }
 }
 
@@ -182,7 +170,7 @@ fn from_lowest(s: SensedQuestion, start: Instant) -> Moment
     match lowest_point(s, start) {
         LowestPoint::Passed => Moment::Never,
         LowestPoint::Inside(t) => shown_at(Side::Lower, s, t),
-        LowestPoint::Beyond => lower_end(s),
+        LowestPoint::Beyond => from_end(Side::Lower, s),
     }
 }
 
@@ -214,26 +202,17 @@ fn from_delay(s: SensedQuestion, start: Instant) -> Moment
     from_lowest(s, start)
 }
 
-// The time shown on the lower side of a window that opens at a start.
-pub fn lower_shown(s: SensedQuestion, start: Instant) -> Moment
-    requires { ⌜ Sizes s ⌝ }
+// The time shown on a side of a window that opens at a start. Between the start and the end only the lower path has instants.
+pub fn time_shown(side: Side, s: SensedQuestion, start: Instant) -> Moment
+    requires { ⌜ Sized side s ⌝ }
     requires { ⌜ opening s ≡ At start ⌝ }
-    ensures { λ t. ⌜ t ≡ timeShown Lower s ⌝ }
+    ensures { λ t. ⌜ t ≡ timeShown side s ⌝ }
 {
-    if not_beyond(Side::Lower, s, start.n, start.m) {
+    if not_beyond(side, s, start.n, start.m) {
         return Moment::At(start);
     }
-    from_delay(s, start)
-}
-
-// And on the upper side.
-pub fn upper_shown(s: SensedQuestion, start: Instant) -> Moment
-    requires { ⌜ Sized Upper s ⌝ }
-    requires { ⌜ opening s ≡ At start ⌝ }
-    ensures { λ t. ⌜ t ≡ timeShown Upper s ⌝ }
-{
-    if not_beyond(Side::Upper, s, start.n, start.m) {
-        return Moment::At(start);
+    match side {
+        Side::Lower => from_delay(s, start),
+        Side::Upper => from_end(Side::Upper, s),
     }
-    upper_end(s)
 }

@@ -1,9 +1,12 @@
 // The verdict on an accepted question. `specs/` says what it is.
 ghost use mathlib.Core.Path.{_≡_};
+ghost use mathlib.Core.Bool.{true};
 ghost use Rattle.instant.specs.declared.Moment.the-variants.{At, Never};
+ghost use Rattle.path.specs.declared.Side.the-variants.{Lower, Upper};
+ghost use Rattle.path.specs.Sizes.{Sized};
 ghost use Rattle.path.specs.Window.{opening};
 ghost use Rattle.question.specs.declared.Checked.the-variants.{Accepted};
-ghost use Rattle.question.specs.Refusals.{refusal};
+ghost use Rattle.question.specs.Refusals.{twoSided, refusal};
 ghost use Rattle.sensed.specs.Sensed.{sensedQuestion};
 ghost use Rattle.verdict.specs.Verdicts.{oneSidedVerdict, twoSidedVerdict, verdictOf, verdict};
 use instant::Instant;
@@ -11,13 +14,13 @@ use instant::Moment;
 use instant::Time;
 use instant::lowest_terms;
 use path::SensedQuestion;
+use path::Side;
 use question::Encounter;
 use question::Question;
 use question::Settings;
 use question::two_sided;
 use sensed::sensed_question;
-use shown::lower_shown;
-use shown::upper_shown;
+use shown::time_shown;
 use window::opening;
 
 // The sides without a conflict time.
@@ -68,24 +71,16 @@ fn empty_verdict(question: Question) -> Verdict
     Verdict::Clear(ClearSides::Lower)
 }
 
-// The verdict where the window opens at a start. The upper side makes the sensed question again, so that a one-sided question doesn't pay for the fields of
-// the upper advice.
-fn open_verdict(
-    encounter: Encounter,
-    settings: Settings,
-    question: Question,
-    s: SensedQuestion,
-    start: Instant,
-) -> Verdict
-    requires { ⌜ refusal encounter settings question ≡ Accepted ⌝ }
-    requires { ⌜ s ≡ sensedQuestion encounter settings question ⌝ }
+// The verdict where the window opens at a start.
+fn open_verdict(question: Question, s: SensedQuestion, start: Instant) -> Verdict
+    requires { ⌜ Sized Lower s ⌝ }
+    requires { ⌜ (twoSided question ≡ true → Sized Upper s) ⌝ }
     requires { ⌜ opening s ≡ At start ⌝ }
-    ensures { λ r. ⌜ r ≡ verdict question (sensedQuestion encounter settings question) ⌝ }
+    ensures { λ r. ⌜ r ≡ verdict question s ⌝ }
 {
-    let lower = lower_shown(s, start);
+    let lower = time_shown(Side::Lower, s, start);
     if two_sided(question) {
-        let again = sensed_question(encounter, settings, question);
-        let upper = upper_shown(again, start);
+        let upper = time_shown(Side::Upper, s, start);
         return two_sided_verdict(lower, upper);
     }
     one_sided_verdict(lower)
@@ -99,6 +94,6 @@ pub fn verdict_on(encounter: Encounter, settings: Settings, question: Question) 
     let s = sensed_question(encounter, settings, question);
     match opening(s) {
         Moment::Never => empty_verdict(question),
-        Moment::At(start) => open_verdict(encounter, settings, question, s, start),
+        Moment::At(start) => open_verdict(question, s, start),
     }
 }

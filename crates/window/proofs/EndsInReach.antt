@@ -5,6 +5,7 @@ use Prim.Native.Nat.{ℕ, zero, suc, _≤_}
 use native.Mathlib.Omega.{arith}
 use lib.IntN.{ℤ, pos, _+ℤ_, _-ℤ_}
 use lib.Signed.{_≤ℤ_}
+use Rattle.limits.specs.Limits.{maxDistance, maxClosingSpeed, maxRadius, maxLimit}
 use Rattle.integers.specs.Extremes.{max0}
 use Rattle.integers.proofs.Quotation.{quote}
 use Rattle.integers.proofs.Certificates.{by≤, gap≤, _⊞_, pos≤}
@@ -18,7 +19,7 @@ use Rattle.path.specs.declared.SensedQuestion.{SensedQuestion}
 use Rattle.path.specs.declared.Side.the-variants.{Lower}
 use Rattle.path.specs.Window.{startOf, exitOf, endOf, windowStart, windowEnd}
 use Rattle.path.specs.Instants.{Among, listed}
-use Rattle.path.specs.Sizes.{LimitSize, Sizes, InReach}
+use Rattle.path.specs.Sizes.{LimitSize, Sizes, farthest, InReach}
 use Rattle.path.proofs.Membership.{among-one}
 use Rattle.window.proofs.CodeEnds.{moving-start}
 
@@ -29,25 +30,25 @@ pub near-sized : (t : Instant) → Near t → Sized t
 near-sized t h = record { n = omega (arith, h .n-hi); m = omega (arith, h .m-hi) }
 
 -- ---- the ends, from their numbers
-start-near : (c p : ℕ) (r : ℤ) → c ≤ 150000 → r ≤ℤ pos 12000000 → Near (startOf c r p)
+start-near : (c p : ℕ) (r : ℤ) → c ≤ maxClosingSpeed → r ≤ℤ pos maxDistance → Near (startOf c r p)
 start-near zero p r hc hr = record { n-hi = omega arith; m-lo = omega arith; m-hi = omega arith }
 start-near (suc c) p r hc hr = record {
-  n-hi = max0-le (r -ℤ pos p) 12060000 (by≤ (p ∷ []) (r ∷ []) (gap≤ hr) (λ v. search quote depth 20) tt);
+  n-hi = max0-le (r -ℤ pos p) (farthest Lower) (by≤ (p ∷ []) (r ∷ []) (gap≤ hr) (λ v. search quote depth 20) tt);
   m-lo = omega arith;
   m-hi = hc;
 }
 
-exit-near : (c p : ℕ) (r : ℤ) → suc c ≤ 150000 → p ≤ 60000 → r ≤ℤ pos 12000000 → Near (max0 (r +ℤ pos p) ÷ suc c)
+exit-near : (c p : ℕ) (r : ℤ) → suc c ≤ maxClosingSpeed → p ≤ maxRadius → r ≤ℤ pos maxDistance → Near (max0 (r +ℤ pos p) ÷ suc c)
 exit-near c p r hc hp hr = record {
-  n-hi = max0-le (r +ℤ pos p) 12060000 (by≤ (p ∷ []) (r ∷ []) (gap≤ hr ⊞ gap≤ (pos≤ hp)) (λ v. search quote depth 20) tt);
+  n-hi = max0-le (r +ℤ pos p) (farthest Lower) (by≤ (p ∷ []) (r ∷ []) (gap≤ hr ⊞ gap≤ (pos≤ hp)) (λ v. search quote depth 20) tt);
   m-lo = omega arith;
   m-hi = hc;
 }
 
-pub second-near : (L : ℕ) → L ≤ 600 → Near (L ÷ 1)
+pub second-near : (L : ℕ) → L ≤ maxLimit → Near (L ÷ 1)
 second-near L h = record { n-hi = omega arith; m-lo = omega arith; m-hi = omega arith }
 
-end-near : (c p : ℕ) (r : ℤ) (l : Limit) → c ≤ 150000 → p ≤ 60000 → r ≤ℤ pos 12000000 → LimitSize l → (t : Instant) → Among t (listed (endOf c r p l)) → Near t
+end-near : (c p : ℕ) (r : ℤ) (l : Limit) → c ≤ maxClosingSpeed → p ≤ maxRadius → r ≤ℤ pos maxDistance → LimitSize l → (t : Instant) → Among t (listed (endOf c r p l)) → Near t
 end-near zero p r Unlimited hc hp hr hl t i = absurd i
 end-near zero p r (Upto L) hc hp hr hl t i = among-one Near (L ÷ 1) t (second-near L hl) i
 end-near (suc c) p r Unlimited hc hp hr hl t i = among-one Near (max0 (r +ℤ pos p) ÷ suc c) t (exit-near c p r hc hp hr) i
@@ -59,7 +60,7 @@ module _ (s : SensedQuestion) (z : Sizes s) where
   pub moving-exit-near : ¬ (s .«closing_speed» ≡ 0) → Near (exitOf (s .«closing_speed») (s .distance) (s .radius))
   moving-exit-near h = go (s .«closing_speed») (z .c-hi) h
     where
-      go : (c : ℕ) → c ≤ 150000 → ¬ (c ≡ 0) → Near (exitOf c (s .distance) (s .radius))
+      go : (c : ℕ) → c ≤ maxClosingSpeed → ¬ (c ≡ 0) → Near (exitOf c (s .distance) (s .radius))
       go zero l k = absurd (k refl)
       go (suc c) l k = exit-near c (s .radius) (s .distance) l (z .p-hi) (z .r-hi)
 

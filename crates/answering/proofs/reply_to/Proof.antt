@@ -1,13 +1,14 @@
 -- `answering::reply_to` meets its contract: by cases on the record.
 use mathlib.Core.Path.{_≡_, sym, ap, ap₂, _∙_}
 use mathlib.Core.Bool.{Bool}
+use mathlib.Core.Option.{some}
 use lib.IntN.{ℤ}
 use mir.Syntax.{w64}
 use mir.Val.{toZ, ofZ}
 use Rattle.question.specs.Refusals.{puckWithin, delayAccelerationWithin}
 use Rattle.judge.specs.Answers.{answerRecord}
 use Rattle.record.specs.declared.Record.{Record}
-use Rattle.reply.specs.AnswerBytes.{recordBytes, replyBytes}
+use Rattle.reply.specs.AnswerBytes.{replyRecord}
 use Rattle.answering.specs.declared.State.{State}
 use Rattle.answering.specs.States.{withPuck, withDelayAcceleration}
 use Rattle.answering.specs.Replies.{settingsReply, codedAnswer, replyTo}
@@ -15,8 +16,8 @@ use borrow.Author.Needs.{needs}
 use Rattle.answering.proofs.reply_to.Statement.{statement}
 use Rattle.answering.proofs.reply_to.Tie as tie
 
-by-record : (st : State) {given told : Record} → given ≡ told → replyBytes (replyTo st told) ≡ replyBytes (replyTo st given)
-by-record st e = ap (λ (r : Record). replyBytes (replyTo st r)) (sym e)
+by-record : (st : State) {given told : Record} → given ≡ told → replyRecord (replyTo st told) ≡ replyRecord (replyTo st given)
+by-record st e = ap (λ (r : Record). replyRecord (replyTo st r)) (sym e)
 
 enum-known-given : tie.Need-enum-known-given
 enum-known-given c = search needs
@@ -72,7 +73,7 @@ returns c =
     let w = c .before in
     let g = w .before .before in
     let z = g .before .before .before in
-    ap replyBytes (c .settings-reply .ensures ∙ ap (λ (b : Bool). settingsReply b 1) (w .encounter-within .ensures)) ∙ by-record (z .args .state) (g .given .given .1)
+    ap replyRecord (c .settings-reply .ensures ∙ ap (λ (b : Bool). settingsReply b 1) (w .encounter-within .ensures)) ∙ by-record (z .args .state) (g .given .given .1)
 
 returns-2 : tie.Need-returns-2
 unfolding replyTo
@@ -86,7 +87,7 @@ returns-2 c =
     let told : toZ w64 (ofZ w64 p) ≡ p = search needs in
     let told₂ : toZ w64 (ofZ w64 k) ≡ k = search needs in
     let new = n .with-puck .ensures ∙ ap₂ (withPuck (z .args .state .settings)) told told₂ in
-    ap replyBytes (c .settings-reply2 .ensures ∙ ap (λ (b : Bool). settingsReply b 2) (w .puck-within .ensures ∙ ap puckWithin new)) ∙ by-record (z .args .state) (g .given2 .given .1)
+    ap replyRecord (c .settings-reply2 .ensures ∙ ap (λ (b : Bool). settingsReply b 2) (w .puck-within .ensures ∙ ap puckWithin new)) ∙ by-record (z .args .state) (g .given2 .given .1)
 
 returns-3 : tie.Need-returns-3
 unfolding replyTo
@@ -98,7 +99,7 @@ returns-3 c =
     let e = g .given3 .given .0 .0 in
     let told : toZ w64 (ofZ w64 e) ≡ e = search needs in
     let new = n .with-delay-acceleration .ensures ∙ ap (withDelayAcceleration (z .args .state .settings)) told in
-    ap replyBytes (c .settings-reply3 .ensures ∙ ap (λ (b : Bool). settingsReply b 3) (w .delay-acceleration-within .ensures ∙ ap delayAccelerationWithin new)) ∙ by-record (z .args .state) (g .given3 .given .1)
+    ap replyRecord (c .settings-reply3 .ensures ∙ ap (λ (b : Bool). settingsReply b 3) (w .delay-acceleration-within .ensures ∙ ap delayAccelerationWithin new)) ∙ by-record (z .args .state) (g .given3 .given .1)
 
 returns-4 : tie.Need-returns-4
 unfolding replyTo
@@ -108,14 +109,14 @@ returns-4 c =
     let st = z .args .state in
     let limit = g .given4 .given .0 .1 .0 in
     let told : toZ w64 (ofZ w64 limit) ≡ limit = search needs in
-    ap recordBytes (c .coded-answer .ensures ∙ ap (λ (l : ℤ). answerRecord (codedAnswer (st .encounter) (st .settings) (g .given4 .given .0 .0) l)) told) ∙ by-record st (g .given4 .given .1)
+    ap some (c .coded-answer .ensures ∙ ap (λ (l : ℤ). answerRecord (codedAnswer (st .encounter) (st .settings) (g .given4 .given .0 .0) l)) told) ∙ by-record st (g .given4 .given .1)
 
 returns-5 : tie.Need-returns-5
 unfolding replyTo
 returns-5 c =
     let g = c .before .before in
     let z = g .before .before .before in
-    ap recordBytes (c .free-answer .ensures) ∙ by-record (z .args .state) (g .given5 .given .1)
+    ap some (c .free-answer .ensures) ∙ by-record (z .args .state) (g .given5 .given .1)
 
 returns-6 : tie.Need-returns-6
 unfolding replyTo

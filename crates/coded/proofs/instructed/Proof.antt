@@ -1,11 +1,11 @@
 -- `coded::instructed` meets its contract: every number is small and stored exactly.
-use mathlib.Core.Path.{_≡_, ap, _∙_}
+use mathlib.Core.Path.{refl, ap, _∙_}
 use borrow.Author.Needs.{needs, sfits-of}
-use lib.IntN.{ℤ, pos}
 use mir.Facts.{toZ-ofZ}
+use Rattle.limits.specs.Limits.{maxStrength, maxDelay}
 use Rattle.integers.proofs.Machine.{bounded-word, result}
 use Rattle.advisory.specs.Catalogue.{rateOf}
-use Rattle.question.specs.declared.Question.{Question}
+use Rattle.question.proofs.SameFields.{same-question}
 use Rattle.coded.proofs.instructed.Statement.{statement}
 use Rattle.coded.proofs.instructed.Tie as tie
 
@@ -21,12 +21,6 @@ cast-t8 c = search needs
 cast-t9 : tie.Need-cast-t9
 cast-t9 c = search needs
 
-same-question : {s s′ t t′ a a′ d d′ l l′ : ℤ} → s ≡ s′ → t ≡ t′ → a ≡ a′ → d ≡ d′ → l ≡ l′
-    → _≡_ {A = Question}
-    (record { sides = pos 1; sense = s; target = t; «upper_target» = pos 0; strength = a; «upper_strength» = pos 0; delay = d; limit = l })
-    (record { sides = pos 1; sense = s′; target = t′; «upper_target» = pos 0; strength = a′; «upper_strength» = pos 0; delay = d′; limit = l′ })
-same-question e f g h i = cc
-
 returns : tie.Need-returns
 returns c =
     let t = c .before .before in
@@ -34,10 +28,13 @@ returns c =
     let z = s .before in
     let i = z .args .i in
     same-question
+    refl
     (toZ-ofZ (sfits-of (s .sense-number .ok)) ∙ s .sense-number .ensures)
     (toZ-ofZ (sfits-of (t .target-rate .ok)) ∙ t .target-rate .ensures ∙ ap (rateOf (i .target)) (toZ-ofZ (z .fits .v)))
-    (result (bounded-word (i .strength) 2000 (z .pre .strength-to)) tt)
-    (result (bounded-word (i .delay) 60 (z .pre .delay-to)) tt)
+    refl
+    (result (bounded-word (i .strength) maxStrength (z .pre .strength-to)) tt)
+    refl
+    (result (bounded-word (i .delay) maxDelay (z .pre .delay-to)) tt)
     (toZ-ofZ (z .fits .limit))
 
 pub instructed-spec : {M : Type 1} → statement M

@@ -1,12 +1,13 @@
 -- `conflict::lower_rule` meets its contract: the edge fits, and each number is the definition's. Assumes nothing.
 use borrow.Author.Needs.{needs, sfits-of}
 use Rattle.integers.proofs.Machine.{Reading, bounded-absolute, equal-to, fits, result}
+use Rattle.conflict.specs.RuleSizes.{mostStart}
 use Rattle.conflict.proofs.Fields.{read-call, same-rule, numbers, start-size}
 use Rattle.conflict.proofs.lower_rule.Statement.{statement}
 use Rattle.conflict.proofs.lower_rule.Tie as tie
 
 abbrev read-start : (c : tie.After-delay-height) → Reading (c .delay-height .result)
-read-start c = let y = c .before .before in equal-to (c .delay-height .ensures) (bounded-absolute _ 9600000 (start-size (y .args .s) (y .pre)))
+read-start c = let y = c .before .before in equal-to (c .delay-height .ensures) (bounded-absolute _ mostStart (start-size (y .args .s) (y .pre)))
 
 returns : tie.Need-returns
 returns c =

@@ -5,7 +5,9 @@ use Prim.Native.Nat.{_≤_}
 use native.Mathlib.Nat.{mul-le-mul}
 use native.Mathlib.Omega.{arith}
 use borrow.Author.Needs.{needs}
+use Rattle.path.specs.declared.Side.the-variants.{Lower}
 use Rattle.conflict.specs.Divided.{straightNotBeyond}
+use Rattle.conflict.specs.RuleSizes.{mostMissing}
 use Rattle.conflict.proofs.Divided.{arc-divided, straight-divided}
 use Rattle.conflict.proofs.Fields.{upper-reach, missing-size, bend-size}
 use Rattle.conflict.proofs.rule_not_beyond.Statement.{statement}
@@ -20,7 +22,7 @@ mul-if1 c = let (z, (g, h)) = c .before .pre in record { fits = omega (arith, mu
 mul-if1-2 : tie.Need-mul-if1-2
 mul-if1-2 c =
     let (z, (g, h)) = c .before .pre in
-    let l : c .missing-speed .result ≤ 160000 = omega (arith, missing-size (c .before .args .rule) z, c .missing-speed .ensures) in
+    let l : c .missing-speed .result ≤ mostMissing Lower = omega (arith, missing-size (c .before .args .rule) z, c .missing-speed .ensures) in
     record { fits = omega (arith, mul-le-mul l (h .m-hi)) }
 
 arc-not-beyond-requires : tie.Need-arc-not-beyond-requires

@@ -4,13 +4,15 @@ use borrow.Author.Needs.{needs}
 use mir.Syntax.{w64}
 use mir.Val.{toZ}
 use Rattle.integers.proofs.Machine.{Reading, bounded-word, word-equal-to, fits, plain}
+use Rattle.path.specs.declared.Side.the-variants.{Lower}
 use Rattle.conflict.specs.Divided.{missing}
+use Rattle.conflict.specs.RuleSizes.{mostMissing}
 use Rattle.conflict.proofs.Fields.{numbers, missing-size}
 use Rattle.conflict.proofs.straight_not_beyond.Statement.{statement}
 use Rattle.conflict.proofs.straight_not_beyond.Tie as tie
 
 abbrev read-gap : (c : tie.Start) → Reading (toZ w64 (c .args .gap))
-read-gap c = word-equal-to (c .pre .1 .1) (bounded-word (missing (c .args .rule)) 160000 (missing-size (c .args .rule) (c .pre .0)))
+read-gap c = word-equal-to (c .pre .1 .1) (bounded-word (missing (c .args .rule)) (mostMissing Lower) (missing-size (c .args .rule) (c .pre .0)))
 
 returns : tie.Need-returns
 returns c =

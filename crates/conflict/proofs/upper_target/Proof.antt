@@ -9,14 +9,14 @@ use Rattle.path.specs.declared.SensedQuestion.{SensedQuestion}
 use Rattle.path.specs.declared.Side.the-variants.{Upper}
 use Rattle.path.specs.Letters.{u, upper-q}
 use Rattle.path.specs.Paths.{upperTarget}
-use Rattle.path.specs.Sizes.{Sized}
+use Rattle.path.specs.Sizes.{maxSpeedDifference, Sized}
 use Rattle.conflict.proofs.Fields.{numbers}
 use Rattle.conflict.proofs.upper_target.Statement.{statement}
 use Rattle.conflict.proofs.upper_target.Tie as tie
 
 module _ (s : SensedQuestion) (sized : Sized Upper s) where
   abbrev read-upper-target : Reading (s .«upper_target»)
-  read-upper-target = bounded (upper-q s) 20000 (sized .1 .upper-q-lo) (sized .1 .upper-q-hi)
+  read-upper-target = bounded (upper-q s) maxSpeedDifference (sized .1 .upper-q-lo) (sized .1 .upper-q-hi)
 
   by-test : (t : Bool) → leZ (toZ w64 (ofZ w64 (upper-q s))) (toZ w64 (ofZ w64 (u s))) ≡ t → cond t (u s) (upper-q s) ≡ upperTarget s
   by-test t h = let z = sized .0 in let q = read-upper-target in ap (λ (t : Bool). cond t (u s) (upper-q s)) (sym h ∙ plain (search numbers depth 20) tt)

@@ -1,52 +1,61 @@
--- `judge::judge` meets its contract: each field of the three structs fits its word, so the judge of numbers gets it as it is; the result's numbers
--- determine the answer.
-use mathlib.Core.Path.{_≡_, ap, _∙_}
-use Prim.Native.Nat.{_<_, _^_}
+-- `judge::judge` meets its contract: refused by the first test that fails, else judged.
+use mathlib.Core.Path.{_≡_, sym, ap, _∙_}
 use borrow.Author.Needs.{needs}
-use lib.IntN.{ℤ}
-use lib.Signed.{mag}
-use mir.Syntax.{w64}
-use mir.Val.{SFits}
-use Rattle.judge.specs.Answers.{answer, answerRecord}
-use Rattle.judge.specs.Results.{flatAnswer, answerOf}
-use Rattle.judge.proofs.StoredNumbers.{stored-result}
-use Rattle.judge.proofs.ResultAnswers.{answer-of-flat, small-number}
+use Rattle.question.specs.declared.Encounter.{Encounter}
+use Rattle.question.specs.declared.Settings.{Settings}
+use Rattle.question.specs.declared.Question.{Question}
+use Rattle.question.specs.declared.Checked.{Checked}
+use Rattle.question.specs.Refusals.{refusal}
+use Rattle.sensed.specs.Sensed.{sensedQuestion}
+use Rattle.verdict.specs.declared.Verdict.{Verdict}
+use Rattle.verdict.specs.Verdicts.{verdict}
+use Rattle.judge.specs.declared.Answer.{Answer}
+use Rattle.judge.specs.Answers.{checkedAnswer, answer, answerRecord}
 use Rattle.judge.proofs.judge.Statement.{statement}
 use Rattle.judge.proofs.judge.Tie as tie
 
-judge-numbers-requires : tie.Need-judge-numbers-requires
-judge-numbers-requires c κs = search needs
+check-question-requires : tie.Need-check-question-requires
+check-question-requires c κs = search needs
 
-word : {x : ℤ} → mag x < 2 ^ 63 → SFits w64 x
-word h = record { sfits = h }
+enum-told : tie.Need-enum-told
+enum-told c = search needs
 
--- each struct is told of where its first field is read
-module _ (c : tie.After-judge-numbers) where
-  abbrev z : tie.Start
-  z = c .before .before .before .before .before .before .before .before .before .before .before .before .before .before .before .before .before
+-- what the check says
+verdict-on-requires : tie.Need-verdict-on-requires
+verdict-on-requires c κs = sym (c .before .before .check-question .ensures) ∙ c .enum-told .given .1
 
-  numbers : c .judge-numbers .result ≡ flatAnswer (answer (z .args .encounter) (z .args .settings) (z .args .question))
-  numbers =
-      let t = c .before .before .before .before .before .before .before .before in
-      let s = t .before .before .before in
-      let g = s .before .before .before .before .before .struct-told .given in
-      let h = s .struct-told6 .given in
-      let k = t .struct-told9 .given in
-      let l = k .1 .1 .1 .1 in
-      stored-result
-      (word (g .0 .1)) (word (g .1 .0 .1)) (word (g .1 .1 .0 .1)) (word (g .1 .1 .1 .0 .1)) (word (g .1 .1 .1 .1 .0 .1))
-      (word (h .0 .1)) (word (h .1 .0 .1)) (word (h .1 .1 .0 .1))
-      (word (k .0 .1)) (word (k .1 .0 .1)) (word (k .1 .1 .0 .1)) (word (k .1 .1 .1 .0 .1)) (word (l .0 .1)) (word (l .1 .0 .1)) (word (l .1 .1 .0 .1)) (word (l .1 .1 .1 .0 .1))
-      (c .judge-numbers .ensures)
+enum-known-number : tie.Need-enum-known-number
+enum-known-number c = search needs
 
-answer-of-requires : tie.Need-answer-of-requires
-answer-of-requires c κs = rw (numbers c) (small-number (z c .args .encounter) (z c .args .settings) (z c .args .question))
+-- the answer by what the check says
+by-check : (x : Encounter) (y : Settings) (z : Question) (k : Checked) → refusal x y z ≡ k → checkedAnswer k (verdict z (sensedQuestion x y z)) ≡ answer x y z
+unfolding answer
+by-check x y z k e = ap (λ (j : Checked). checkedAnswer j (verdict z (sensedQuestion x y z))) (sym e)
 
 returns : tie.Need-returns
 returns c =
-    let j = c .before in
-    let a = answer (z j .args .encounter) (z j .args .settings) (z j .args .question) in
-    ap answerRecord (c .answer-of .ensures ∙ ap answerOf (numbers j) ∙ answer-of-flat a)
+    let t = c .before in
+    let k = t .before .before in
+    let a = k .before .args in
+    ap answerRecord
+    (ap Answer.Judged (c .verdict-on .ensures)
+    ∙ by-check (a .encounter) (a .settings) (a .question) Checked.Accepted (sym (k .check-question .ensures) ∙ t .enum-told .given .1))
+
+returns-2 : tie.Need-returns-2
+returns-2 c =
+    let n = c .before in
+    let k = n .before .before in
+    let a = k .before .args in
+    ap answerRecord
+    (by-check (a .encounter) (a .settings) (a .question) (Checked.Refused (n .number .given .0 .0)) (sym (k .check-question .ensures) ∙ n .number .given .1))
 
 pub judge-spec : {M : Type 1} → statement M
-judge-spec = tie.close (tie.spec judge-numbers-requires answer-of-requires returns)
+judge-spec =
+    tie.close
+    (tie.spec
+    check-question-requires
+    enum-told
+    verdict-on-requires
+    enum-known-number
+    returns
+    returns-2)

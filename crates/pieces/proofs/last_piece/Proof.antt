@@ -11,12 +11,13 @@ use Rattle.instant.specs.Order.{_÷_}
 use Rattle.path.specs.Letters.{a, d}
 use Rattle.path.specs.Sizes.{Sizes}
 use Rattle.pieces.specs.Pieces.{missingSpeed}
+use Rattle.pieces.specs.PieceSizes.{mostGap}
 use Rattle.pieces.proofs.Fields.{coefficients, gap-size, read-height, same-piece}
 use Rattle.pieces.proofs.last_piece.Statement.{statement}
 use Rattle.pieces.proofs.last_piece.Tie as tie
 
-gap-most : (c : tie.After-missing-speed) → c .missing-speed .result ≤ 160000
-gap-most c = subst (λ (g : ℕ). g ≤ 160000) (sym (c .missing-speed .ensures)) (gap-size (c .before .args .s) (c .before .pre))
+gap-most : (c : tie.After-missing-speed) → c .missing-speed .result ≤ mostGap
+gap-most c = subst (λ (g : ℕ). g ≤ mostGap) (sym (c .missing-speed .ensures)) (gap-size (c .before .args .s) (c .before .pre))
 
 module _ (c : tie.After-struct-known3) where
   abbrev start : tie.After-missing-speed
@@ -26,7 +27,7 @@ module _ (c : tie.After-struct-known3) where
   sizes = start .before .pre
 
   abbrev gap : Reading (toZ w64 (start .missing-speed .result))
-  gap = word-equal-to (start .missing-speed .ensures) (bounded-word (missingSpeed (start .before .args .s)) 160000 (gap-size (start .before .args .s) sizes))
+  gap = word-equal-to (start .missing-speed .ensures) (bounded-word (missingSpeed (start .before .args .s)) mostGap (gap-size (start .before .args .s) sizes))
 
   abbrev height : Reading (c .before .before .before .before .height-after-delay .result)
   height = equal-to (c .before .before .before .before .height-after-delay .ensures) (read-height (start .before .args .s) sizes)

@@ -4,7 +4,7 @@ use mathlib.Core.Bool.{Bool, true, false, not, _&&_, _||_, and-true, and-false}
 use borrow.Author.Needs.{needs}
 use borrow.Author.Tests.{not-true, not-false}
 use Rattle.question.specs.declared.Question.{Question}
-use Rattle.question.specs.Limits.{delayWithin}
+use Rattle.limits.specs.Limits.{delayWithin}
 use Rattle.question.specs.Refusals.{twoSided, noDelay, limitAllowed, timesWithin}
 use Rattle.refusals.proofs.times_within.Statement.{statement}
 use Rattle.refusals.proofs.times_within.Tie as tie

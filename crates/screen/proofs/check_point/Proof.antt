@@ -8,6 +8,7 @@ use borrow.Author.Tests.{le-leb, lt-leb}
 use Rattle.integers.proofs.Branches.{picks-yes, picks-no}
 use Rattle.question.specs.declared.Checked.{Checked}
 use Rattle.question.specs.Refusals.{check, firstRefusal, plainChecks, refusal}
+use Rattle.pieces.specs.Pieces.{lastSecond}
 use Rattle.screen.specs.Points.{pointRefusal}
 use Rattle.screen.proofs.PointChecks.{accepted-first, refused-first}
 use Rattle.screen.proofs.check_point.Statement.{statement}
@@ -17,24 +18,24 @@ abbrev asked : tie.Start → Checked
 asked z = pointRefusal (z .args .encounter) (z .args .settings) (z .args .question) (z .args .second)
 
 -- where the entry for plain numbers accepts, the second decides
-by-second : (c : tie.After-enum-told) → let z = c .before .before .before in asked z ≡ firstRefusal (check 6 (leb (z .args .second) 600) ∷ [])
+by-second : (c : tie.After-enum-told) → let z = c .before .before .before in asked z ≡ firstRefusal (check 6 (leb (z .args .second) lastSecond) ∷ [])
 unfolding pointRefusal refusal
 by-second c =
     let k = c .before .before in
     let z = k .before in
-    accepted-first (plainChecks (z .args .encounter) (z .args .settings) (z .args .question)) (check 6 (leb (z .args .second) 600) ∷ []) (sym (k .check-question .ensures) ∙ c .enum-told .given .1)
+    accepted-first (plainChecks (z .args .encounter) (z .args .settings) (z .args .question)) (check 6 (leb (z .args .second) lastSecond) ∷ []) (sym (k .check-question .ensures) ∙ c .enum-told .given .1)
 
 returns : tie.Need-returns
 returns c =
     let t = c .before in
     let z = t .before .before .before in
-    sym (by-second t ∙ picks-yes (leb (z .args .second) 600) Checked.Accepted (Checked.Refused 6) (le-leb (z .args .second) 600 (omega (arith, c .if1 .taken))))
+    sym (by-second t ∙ picks-yes (leb (z .args .second) lastSecond) Checked.Accepted (Checked.Refused 6) (le-leb (z .args .second) lastSecond (omega (arith, c .if1 .taken))))
 
 returns-2 : tie.Need-returns-2
 returns-2 c =
     let t = c .before in
     let z = t .before .before .before in
-    sym (by-second t ∙ picks-no (leb (z .args .second) 600) Checked.Accepted (Checked.Refused 6) (lt-leb (z .args .second) 600 (omega (arith, c .if1 .left))))
+    sym (by-second t ∙ picks-no (leb (z .args .second) lastSecond) Checked.Accepted (Checked.Refused 6) (lt-leb (z .args .second) lastSecond (omega (arith, c .if1 .left))))
 
 returns-3 : tie.Need-returns-3
 unfolding pointRefusal refusal
@@ -42,7 +43,7 @@ returns-3 c =
     let n = c .before in
     let k = n .before .before in
     let z = k .before in
-    sym (refused-first (n .number .given .0 .0) (plainChecks (z .args .encounter) (z .args .settings) (z .args .question)) (check 6 (leb (z .args .second) 600) ∷ []) (sym (k .check-question .ensures) ∙ n .number .given .1))
+    sym (refused-first (n .number .given .0 .0) (plainChecks (z .args .encounter) (z .args .settings) (z .args .question)) (check 6 (leb (z .args .second) lastSecond) ∷ []) (sym (k .check-question .ensures) ∙ n .number .given .1))
 
 pub check-point-spec : {M : Type 1} → statement M
 check-point-spec = tie.close (tie.spec (λ c κs. search needs) (λ c. search needs) (λ c. search needs) returns returns-2 returns-3)

@@ -8,6 +8,7 @@ use Rattle.question.specs.declared.Checked.{Checked}
 use Rattle.question.specs.Refusals.{refusal}
 use Rattle.sensed.specs.Sensed.{sensedQuestion}
 use Rattle.sensed.proofs.AcceptedSizes.{accepted-sizes}
+use Rattle.pieces.specs.Pieces.{lastSecond}
 use Rattle.screen.specs.declared.PointAnswer.{PointAnswer}
 use Rattle.screen.specs.Points.{pointAt, pointRefusal, checkedPoint, screenPoint}
 use Rattle.screen.proofs.PointChecks.{accepted-point}
@@ -17,7 +18,7 @@ use Rattle.screen.proofs.screen_point.Tie as tie
 passed : (c : tie.After-enum-told) → let a = c .before .before .before .args in pointRefusal (a .encounter) (a .settings) (a .question) (a .second) ≡ Checked.Accepted
 passed c = sym (c .before .before .check-point .ensures) ∙ c .enum-told .given .1
 
-accepted : (c : tie.After-enum-told) → let a = c .before .before .before .args in (refusal (a .encounter) (a .settings) (a .question) ≡ Checked.Accepted) × (a .second ≤ 600)
+accepted : (c : tie.After-enum-told) → let a = c .before .before .before .args in (refusal (a .encounter) (a .settings) (a .question) ≡ Checked.Accepted) × (a .second ≤ lastSecond)
 accepted c = let a = c .before .before .before .args in accepted-point (a .encounter) (a .settings) (a .question) (a .second) (passed c)
 
 sensed-question-requires : tie.Need-sensed-question-requires

@@ -17,11 +17,14 @@ returns c =
     let s = z .args .sheet .now in
     sym (le-leb (length (sheetAnswer s)) (z .args .room) (omega (arith, sheet-answer-short s (z .pre), c .if1 .taken)))
 
-sheet-answer-length-requires : tie.Need-sheet-answer-length-requires
-sheet-answer-length-requires c κs = search needs
+slice-aggregate-walk-sheet : tie.Need-slice-aggregate-walk-sheet
+slice-aggregate-walk-sheet c = search needs
+
+walk-sheet-requires : tie.Need-walk-sheet-requires
+walk-sheet-requires c κs = search needs
 
 returns-2 : tie.Need-returns-2
-returns-2 c = ap (λ (n : ℕ). leb n (c .before .before .before .args .room)) (c .sheet-answer-length .ensures)
+returns-2 c = let w = c .before in ap (λ (n : ℕ). leb n (w .before .before .before .before .args .room)) (w .walk-sheet .ensures .0)
 
 pub answer-fits-spec : {M : Type 1} → statement M
-answer-fits-spec = tie.close (tie.spec returns sheet-answer-length-requires returns-2)
+answer-fits-spec = tie.close (tie.spec returns slice-aggregate-walk-sheet walk-sheet-requires returns-2)

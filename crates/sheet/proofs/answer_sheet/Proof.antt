@@ -1,15 +1,13 @@
 -- `sheet::answer_sheet` meets its contract: by the check of the sheet and the room; an accepted answer, stored, is followed by the area's own bytes.
 use mathlib.Core.Path.{_≡_, sym, ap, _∙_}
-use mathlib.Core.List.{List, _++_}
-use Prim.Native.Nat.{ℕ, _≤_}
-use native.Mathlib.Nat.{zero-add}
-use native.Mathlib.Omega.{arith}
+use mathlib.Core.List.{List}
+use Prim.Native.Nat.{ℕ}
 use borrow.Author.Tests.{leb-true}
-use lib.ListN.{length, drop}
-use lib.Seq.{sets, sets-eq}
+use lib.ListN.{length}
 use Rattle.question.specs.declared.Checked.{Checked}
 use Rattle.integers.proofs.Branches.{picks-yes, picks-no}
 use Rattle.record.specs.SheetCheck.{sheetCheck}
+use Rattle.reply.proofs.Writing.{stored-first}
 use Rattle.sheet.specs.declared.Outcome.{Outcome}
 use Rattle.sheet.specs.WholeSheet.{sheetAnswer, outcomeFor, outcome, areaFor, areaAfter, outcomeRecord}
 use borrow.Author.Needs.{needs}
@@ -22,10 +20,6 @@ promised s area e = (ap outcomeRecord (sym e), ap (λ (o : Outcome). areaFor o (
 
 by-check : (s area : List ℕ) {k : Checked} → sheetCheck s ≡ k → outcome s (length area) ≡ outcomeFor k (length (sheetAnswer s)) (length area)
 by-check s area e = ap (λ (k : Checked). outcomeFor k (length (sheetAnswer s)) (length area)) e
-
--- an answer stored from the start on, and the rest of the area
-stored-answer : (answer area : List ℕ) → length answer ≤ length area → sets area 0 answer ≡ answer ++ drop (length answer) area
-stored-answer answer area h = sets-eq answer area 0 (omega arith) ∙ ap (λ (n : ℕ). answer ++ drop n area) (zero-add (length answer))
 
 check-sheet-requires : tie.Need-check-sheet-requires
 check-sheet-requires c κs = search needs
@@ -40,8 +34,8 @@ answer-fits-requires : tie.Need-answer-fits-requires
 answer-fits-requires c κs = cc
 
 -- a byte is written only after the scan and the test of the room
-write-sheet-answer-requires : tie.Need-write-sheet-answer-requires
-write-sheet-answer-requires c κs = (cc, leb-true _ _ cc)
+walk-sheet-requires : tie.Need-walk-sheet-requires
+walk-sheet-requires c κs = (cc, leb-true _ _ cc)
 
 checked : (c : tie.After-enum-told) → sheetCheck (c .before .before .before .before .before .args .sheet .now) ≡ Checked.Accepted
 checked c = cc
@@ -69,8 +63,8 @@ returns-2 c =
     let area = z .args .area .now in
     let fits = sym (n .answer-fits .ensures) ∙ t .if1 .taken in
     let p = promised s area (by-check s area (checked a) ∙ picks-yes _ _ _ fits) in
-    let written = w .write-sheet-answer .ensures in
-    (ap (λ (k : ℕ). outcomeRecord (Outcome.Accepted k)) (written .0) ∙ p .0, written .1 ∙ stored-answer (sheetAnswer s) area (leb-true _ _ fits) ∙ p .1)
+    let written = w .walk-sheet .ensures in
+    (ap (λ (k : ℕ). outcomeRecord (Outcome.Accepted k)) (written .0) ∙ p .0, written .1 ∙ stored-first (sheetAnswer s) area (leb-true _ _ fits) ∙ p .1)
 
 returns-3 : tie.Need-returns-3
 returns-3 c =
@@ -89,7 +83,7 @@ answer-sheet-spec =
     enum-known-number
     enum-told
     answer-fits-requires
-    write-sheet-answer-requires
+    walk-sheet-requires
     returns
     same-length
     returns-2

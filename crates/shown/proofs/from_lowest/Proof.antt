@@ -2,7 +2,7 @@
 use mathlib.Core.Path.{_≡_, sym, ap, _∙_}
 use borrow.Author.Needs.{needs}
 use Rattle.shown.specs.declared.LowestPoint.the-variants.{Inside}
-use Rattle.shown.specs.Search.{lowestPoint}
+use Rattle.shown.specs.inner.Steps.{lowestPoint}
 use Rattle.shown.proofs.InstantsInReach.{turning-reach}
 use Rattle.shown.proofs.OpenWindow.{afterLowest, lowest-shown, inside-turning}
 use Rattle.shown.proofs.from_lowest.Statement.{statement}
@@ -31,8 +31,8 @@ shown-at-requires c κs =
 enum-told-2 : tie.Need-enum-told-2
 enum-told-2 c = search needs
 
-lower-end-requires : tie.Need-lower-end-requires
-lower-end-requires c κs = let z = c .before .before .before in (z .pre .0, z .pre .1 .0)
+from-end-requires : tie.Need-from-end-requires
+from-end-requires c κs = let z = c .before .before .before in (z .pre .0, z .pre .1 .0)
 
 returns : tie.Need-returns
 returns c =
@@ -51,7 +51,7 @@ returns-3 c =
     let m = c .before in
     let w = m .before .before in
     let z = w .before in
-    c .lower-end .ensures ∙ ap (afterLowest (z .args .s)) (sym (sym (w .lowest-point .ensures) ∙ m .enum-told2 .given .1)) ∙ lowest-shown (z .args .s) (z .pre .0) (z .pre .1 .0 .0) (z .pre .1 .0 .1 .0)
+    c .from-end .ensures ∙ ap (afterLowest (z .args .s)) (sym (sym (w .lowest-point .ensures) ∙ m .enum-told2 .given .1)) ∙ lowest-shown (z .args .s) (z .pre .0) (z .pre .1 .0 .0) (z .pre .1 .0 .1 .0)
 
 pub from-lowest-spec : {M : Type 1} → statement M
-from-lowest-spec = tie.close (tie.spec lowest-point-requires enum-told enum-known-t shown-at-requires enum-told-2 lower-end-requires returns returns-2 returns-3)
+from-lowest-spec = tie.close (tie.spec lowest-point-requires enum-told enum-known-t shown-at-requires enum-told-2 from-end-requires returns returns-2 returns-3)

@@ -9,7 +9,7 @@ use Rattle.path.specs.declared.SensedQuestion.{SensedQuestion}
 use Rattle.path.specs.Window.{inWindow, windowStart}
 use Rattle.window.proofs.EndsInReach.{Near, near-sized, windowStart-near}
 use Rattle.shown.specs.declared.LowestPoint.the-variants.{Passed, Inside, Beyond}
-use Rattle.shown.specs.Search.{lowestBy, lowestPoint}
+use Rattle.shown.specs.inner.Steps.{lowestBy, lowestPoint}
 use Rattle.shown.proofs.InstantsInReach.{turning-reach}
 use Rattle.shown.proofs.OpenWindow.{turning-of}
 use Rattle.shown.proofs.lowest_point.Statement.{statement}

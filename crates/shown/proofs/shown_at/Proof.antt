@@ -3,7 +3,7 @@ use mathlib.Core.Path.{sym, _∙_}
 use Rattle.instant.specs.declared.Moment.the-variants.{At, Never}
 use Rattle.path.specs.Conflict.{notBeyond}
 use Rattle.integers.proofs.Branches.{picks-yes, picks-no}
-use Rattle.shown.specs.Search.{shownAt}
+use Rattle.shown.specs.inner.Steps.{shownAt}
 use Rattle.shown.proofs.shown_at.Statement.{statement}
 use Rattle.shown.proofs.shown_at.Tie as tie
 

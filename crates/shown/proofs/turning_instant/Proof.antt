@@ -10,6 +10,7 @@ use Rattle.integers.proofs.Machine.{Reading, bounded, bounded-absolute, equal-t
 use Rattle.instant.specs.declared.Moment.the-variants.{At}
 use Rattle.instant.specs.Order.{_÷_}
 use Rattle.path.specs.Paths.{u-d}
+use Rattle.path.specs.Sizes.{maxSpeedDifference, maxSpeedAfterDelay}
 use Rattle.conflict.proofs.Fields.{after-delay-size}
 use Rattle.shown.proofs.CodeTurning.{no-turning, turning, zero-minus}
 use Rattle.shown.proofs.InstantsInReach.{back-size}
@@ -20,14 +21,14 @@ returns : tie.Need-returns
 returns c =
     let z = c .before .before in
     let s = z .args .s in
-    let q = bounded (s .target) 20000 (z .pre .q-lo) (z .pre .q-hi) in
+    let q = bounded (s .target) maxSpeedDifference (z .pre .q-lo) (z .pre .q-hi) in
     no-turning (s .strength) (s .delay) (u-d s) (s .target) (passed (c .if1 .taken) (search machine) tt)
 
 speed-after-delay-requires : tie.Need-speed-after-delay-requires
 speed-after-delay-requires c κs = search needs
 
 abbrev speed : (c : tie.After-speed-after-delay) → Reading (c .speed-after-delay .result)
-speed c = let z = c .before .before .before in equal-to (c .speed-after-delay .ensures) (bounded-absolute (u-d (z .args .s)) 140000 (after-delay-size (z .args .s) (z .pre)))
+speed c = let z = c .before .before .before in equal-to (c .speed-after-delay .ensures) (bounded-absolute (u-d (z .args .s)) maxSpeedAfterDelay (after-delay-size (z .args .s) (z .pre)))
 
 sub-positive-part : tie.Need-sub-positive-part
 sub-positive-part c = let v = speed c in fits (search machine) tt
@@ -49,7 +50,7 @@ returns-2 c =
     let b = c .before .before in
     let z = b .before .before in
     let s = z .args .s in
-    let q = bounded (s .target) 20000 (z .pre .q-lo) (z .pre .q-hi) in
+    let q = bounded (s .target) maxSpeedDifference (z .pre .q-lo) (z .pre .q-hi) in
     ap (λ (n : ℕ). At (s .delay * s .strength + n ÷ s .strength)) (is-back c) ∙ turning (s .strength) (s .delay) (u-d s) (s .target) (failed (b .if1 .left) (search machine) tt)
 
 pub turning-instant-spec : {M : Type 1} → statement M

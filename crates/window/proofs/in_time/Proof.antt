@@ -7,6 +7,7 @@ use borrow.Author.Needs.{needs}
 use Rattle.path.specs.declared.Limit.{Limit}
 use Rattle.path.specs.Window.{inTime}
 use Rattle.path.specs.Sizes.{LimitSize}
+use Rattle.limits.specs.Limits.{maxLimit}
 use Rattle.window.proofs.in_time.Statement.{statement}
 use Rattle.window.proofs.in_time.Tie as tie
 
@@ -20,7 +21,7 @@ mul-result : tie.Need-mul-result
 mul-result c =
     let (l, h) = c .before .before .before .pre in
     let limit = c .before .limit .given in
-    let k : limit .0 .0 ≤ 600 = subst LimitSize (limit .1) l in
+    let k : limit .0 .0 ≤ maxLimit = subst LimitSize (limit .1) l in
     record { fits = omega (arith, mul-le-mul k (h .m-hi)) }
 
 returns : tie.Need-returns

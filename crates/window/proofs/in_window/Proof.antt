@@ -11,7 +11,7 @@ use mir.Facts.{toZ-ofZ}
 use Rattle.integers.proofs.Machine.{bounded-absolute, equal-to, read-stored}
 use Rattle.path.specs.declared.SensedQuestion.{SensedQuestion}
 use Rattle.path.specs.Window.{inTime, distanceAt, inWindow}
-use Rattle.window.proofs.Fields.{size, distance-size}
+use Rattle.window.proofs.Fields.{size, mostDistance, distance-size}
 use Rattle.window.proofs.in_window.Statement.{statement}
 use Rattle.window.proofs.in_window.Tie as tie
 
@@ -35,7 +35,7 @@ absolute-requires : tie.Need-absolute-requires
 absolute-requires c κs =
     let y = c .before in
     let (z, h) = y .pre in
-    let ahead = equal-to (c .distance-at .ensures) (bounded-absolute _ 3609000000000 (distance-size (y .args .s) (y .args .n) (y .args .m) z h)) in
+    let ahead = equal-to (c .distance-at .ensures) (bounded-absolute _ mostDistance (distance-size (y .args .s) (y .args .n) (y .args .m) z h)) in
     omega (arith, size _ (read-stored ahead) tt)
 
 mul-if1 : tie.Need-mul-if1

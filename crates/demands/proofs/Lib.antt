@@ -1,0 +1,4 @@
+pub mod PlainAnswers
+pub mod SheetAnswers
+pub mod ProgramWrites
+pub mod Exported

@@ -1,0 +1,6 @@
+pub mod Demand3
+pub mod Demand2
+pub mod PlainAnswer
+pub mod Sheets
+pub mod Program
+pub mod Marked

@@ -1,0 +1,89 @@
+// The customer's demands of every entry. Each function only calls an entry, and its contract is what the demands ask of that entry's result: the checker
+// proves here that the entry's own contract gives it. `specs/` has the demands in the customer's words; demands that no entry answers stand there with their proofs.
+ghost use lib.ListN.{take};
+ghost use Rattle.binding.specs.PlainNumbers.{plainEncounter, plainSettings, plainQuestion};
+ghost use Rattle.demands.specs.PlainAnswer.{RightlyAnswered, RightlyExported};
+ghost use Rattle.demands.specs.Sheets.{SheetAnswered, outcomeIn};
+ghost use Rattle.demands.specs.Program.{Written};
+use binding::JudgeResult;
+use binding::SheetResult;
+use binding::answer_sheet_bytes;
+use binding::judge_plain;
+use judge::Answer;
+use judge::judge;
+use program::Output;
+use program::program_output;
+use question::Encounter;
+use question::Question;
+use question::Settings;
+use sheet::Outcome;
+use sheet::answer_sheet;
+
+// The entry for plain numbers.
+pub fn judge_demanded(encounter: Encounter, settings: Settings, question: Question) -> Answer
+    ensures { λ r. ⌜ RightlyAnswered encounter settings question r ⌝ }
+{
+    judge(encounter, settings, question)
+}
+
+// The same for C and Rust: the numbers are those of a right answer's record.
+pub fn judge_plain_demanded(
+    r: i64,
+    h: i64,
+    c: i64,
+    v: i64,
+    vi: i64,
+    p: i64,
+    k: i64,
+    e: i64,
+    sides: i64,
+    sense: i64,
+    target: i64,
+    upper_target: i64,
+    strength: i64,
+    upper_strength: i64,
+    delay: i64,
+    limit: i64,
+) -> JudgeResult
+    ensures { λ out. ⌜ RightlyExported (plainEncounter r h c v vi) (plainSettings p k e) (plainQuestion sides sense target «upper_target» strength «upper_strength» delay limit) out ⌝ }
+{
+    judge_plain(
+        r,
+        h,
+        c,
+        v,
+        vi,
+        p,
+        k,
+        e,
+        sides,
+        sense,
+        target,
+        upper_target,
+        strength,
+        upper_strength,
+        delay,
+        limit,
+    )
+}
+
+// The entry for sheets.
+pub fn answer_sheet_demanded(sheet: &[u8], area: &mut [u8]) -> Outcome
+    ensures { λ r. ⌜ SheetAnswered (now (sheet .entry)) (now (area .entry)) (now (area .exit)) r ⌝ }
+{
+    answer_sheet(sheet, area)
+}
+
+// The same for C and Rust.
+pub fn answer_sheet_bytes_demanded(sheet: &[u8], area: &mut [u8]) -> SheetResult
+    ensures { λ r. ⌜ SheetAnswered (now (sheet .entry)) (now (area .entry)) (now (area .exit)) (outcomeIn r) ⌝ }
+{
+    answer_sheet_bytes(sheet, area)
+}
+
+// The program's own function.
+pub fn program_output_demanded(sheet: &[u8]) -> Output
+    ensures { λ r. ⌜ Written (now (sheet .entry)) (take (r .length) (r .area)) ⌝ }
+{
+    program_output(sheet)
+}

@@ -1,0 +1,50 @@
+-- `lifgorund::main` stays in its rooms: what is to be written is within the area.
+use borrow.Author.Needs.{needs}
+use Rattle.program.proofs.OutputLaws.{output-fits, output-taken}
+use Rattle.lifgorund.proofs.main.Statement.{statement}
+use Rattle.lifgorund.proofs.main.Tie as tie
+
+read-room-requires : tie.Need-read-room-requires
+read-room-requires c κs = search needs
+
+slice-aggregate-read-full : tie.Need-slice-aggregate-read-full
+slice-aggregate-read-full c = search needs
+
+read-full-requires : tie.Need-read-full-requires
+read-full-requires c κs = search needs
+
+array-share-prefix-sheet : tie.Need-array-share-prefix-sheet
+array-share-prefix-sheet c = search needs
+
+slice-aggregate-program-output : tie.Need-slice-aggregate-program-output
+slice-aggregate-program-output c = search needs
+
+program-output-requires : tie.Need-program-output-requires
+program-output-requires c κs = search needs
+
+array-share-prefix-area : tie.Need-array-share-prefix-area
+array-share-prefix-area c = output-fits _ (c .before .program-output .ensures)
+
+slice-aggregate-write-all : tie.Need-slice-aggregate-write-all
+slice-aggregate-write-all c = output-taken _ (c .before .before .program-output .ensures)
+
+write-all-requires : tie.Need-write-all-requires
+write-all-requires c κs = search needs
+
+returns : tie.Need-returns
+returns c = search needs
+
+pub main-spec : {M : Type 1} → statement M
+main-spec =
+    tie.close
+    (tie.spec
+    read-room-requires
+    slice-aggregate-read-full
+    read-full-requires
+    array-share-prefix-sheet
+    slice-aggregate-program-output
+    program-output-requires
+    array-share-prefix-area
+    slice-aggregate-write-all
+    write-all-requires
+    returns)

@@ -1,0 +1,60 @@
+/* A host in C: judges questions of plain numbers, and answers sheets. `compare/hosts` builds and runs it; by hand, from the repository's root:
+ *     rt staticlib binding
+ *     cc -Iinclude -o host examples/host.c target/staticlib/libbinding.a && ./host examples/whole_example.sheet
+ */
+#include "lifgorund.h"
+#include <inttypes.h>
+#include <stdio.h>
+
+static void show(const char *name, JudgeResult answer)
+{
+    switch (answer.kind) {
+    case LIFGORUND_CLEAR:
+        printf("%s: clear, sides %" PRIu64 "\n", name, answer.number);
+        break;
+    case LIFGORUND_REFUSED:
+        printf("%s: refused, %" PRIu64 "\n", name, answer.number);
+        break;
+    default:
+        printf("%s: conflict at %" PRIu64 " %" PRIu64 "/%" PRIu64 " s", name, answer.lower_seconds, answer.lower_remainder, answer.lower_divisor);
+        if (answer.kind == LIFGORUND_CONFLICTS)
+            printf(", upper side at %" PRIu64 " %" PRIu64 "/%" PRIu64 " s", answer.upper_seconds, answer.upper_remainder, answer.upper_divisor);
+        printf("\n");
+    }
+}
+
+/* Climb to 1,500 from level flight, 300,000 grains ahead of an intruder at height h that closes at 10,000. */
+static JudgeResult climb(int64_t h, int64_t strength)
+{
+    return judge_plain(300000, h, 10000, 0, 0, 30000, 6000, 966, LIFGORUND_ONE_SIDED, LIFGORUND_CLIMB, 1500, 0, strength, 0, 0, LIFGORUND_NO_LIMIT);
+}
+
+static void answer(const char *name, const uint8_t *sheet, size_t length, size_t room)
+{
+    static uint8_t area[LIFGORUND_AMPLE_AREA];
+    SheetResult result = answer_sheet_bytes(sheet, length, room ? area : NULL, room);
+    printf("%s: refusal %" PRIu64 ", length %" PRIu64 ",", name, result.refusal, result.length);
+    for (uint64_t i = 0; i < result.length; i++)
+        printf(" %02x", area[i]);
+    printf("\n");
+}
+
+int main(int argc, char **argv)
+{
+    uint8_t sheet[LIFGORUND_LONGEST_SHEET + 1]; /* one byte more, so that a sheet that is too long is seen */
+    FILE *file = argc == 2 ? fopen(argv[1], "rb") : NULL;
+    if (!file)
+        return 2;
+    size_t length = fread(sheet, 1, sizeof sheet, file);
+    fclose(file);
+
+    show("M1", climb(32249, 500));
+    show("M2", climb(32250, 500));
+    show("M13", judge_plain(0, 6000, 0, 0, 0, 30000, 6000, 966, LIFGORUND_TWO_SIDED, LIFGORUND_CLIMB, 0, 0, 500, 500, 0, LIFGORUND_NO_LIMIT));
+    show("strength 0", climb(32250, 0));
+    answer("whole example", sheet, length, LIFGORUND_AMPLE_AREA);
+    answer("cut short", sheet, length - 1, LIFGORUND_AMPLE_AREA);
+    answer("area of 12 bytes", sheet, length, 12);
+    answer("no sheet and no area", NULL, 0, 0);
+    return 0;
+}

@@ -1,0 +1,63 @@
+"""A host in Python: judges questions of plain numbers, and answers sheets. `compare/hosts` builds the shared library and runs it; by hand, from
+the repository's root:
+    rt staticlib binding
+    cc -shared -o liblifgorund.so -Wl,--whole-archive target/staticlib/libbinding.a -Wl,--no-whole-archive
+    python3 examples/host.py ./liblifgorund.so examples/whole_example.sheet
+include/lifgorund.h says what each argument and each field is.
+"""
+import ctypes
+import sys
+
+ONE_SIDED, TWO_SIDED, CLIMB, NO_LIMIT = 1, 2, 1, 65535
+CLEAR, CONFLICTS, REFUSED = 65, 67, 68
+AMPLE_AREA = 26624
+
+
+class JudgeResult(ctypes.Structure):
+    _fields_ = [(name, ctypes.c_uint64) for name in (
+        "kind", "number", "lower_seconds", "lower_remainder", "lower_divisor", "upper_seconds", "upper_remainder", "upper_divisor")]
+
+
+class SheetResult(ctypes.Structure):
+    _fields_ = [("refusal", ctypes.c_uint64), ("length", ctypes.c_uint64)]
+
+
+library = ctypes.CDLL(sys.argv[1])
+library.judge_plain.argtypes = [ctypes.c_int64] * 16
+library.judge_plain.restype = JudgeResult
+library.answer_sheet_bytes.argtypes = [ctypes.c_char_p, ctypes.c_size_t, ctypes.c_char_p, ctypes.c_size_t]
+library.answer_sheet_bytes.restype = SheetResult
+
+
+def show(name, answer):
+    if answer.kind == CLEAR:
+        print(f"{name}: clear, sides {answer.number}")
+    elif answer.kind == REFUSED:
+        print(f"{name}: refused, {answer.number}")
+    else:
+        upper = f", upper side at {answer.upper_seconds} {answer.upper_remainder}/{answer.upper_divisor} s" if answer.kind == CONFLICTS else ""
+        print(f"{name}: conflict at {answer.lower_seconds} {answer.lower_remainder}/{answer.lower_divisor} s{upper}")
+
+
+def climb(h, strength):
+    """Climb to 1,500 from level flight, 300,000 grains ahead of an intruder at height h that closes at 10,000."""
+    return library.judge_plain(300000, h, 10000, 0, 0, 30000, 6000, 966, ONE_SIDED, CLIMB, 1500, 0, strength, 0, 0, NO_LIMIT)
+
+
+def answer(name, sheet, room):
+    area = ctypes.create_string_buffer(room) if room else None
+    result = library.answer_sheet_bytes(sheet, len(sheet or b""), area, room)
+    text = "".join(f" {byte:02x}" for byte in area.raw[:result.length]) if area else ""
+    print(f"{name}: refusal {result.refusal}, length {result.length},{text}")
+
+
+with open(sys.argv[2], "rb") as file:
+    sheet = file.read()
+show("M1", climb(32249, 500))
+show("M2", climb(32250, 500))
+show("M13", library.judge_plain(0, 6000, 0, 0, 0, 30000, 6000, 966, TWO_SIDED, CLIMB, 0, 0, 500, 500, 0, NO_LIMIT))
+show("strength 0", climb(32250, 0))
+answer("whole example", sheet, AMPLE_AREA)
+answer("cut short", sheet[:-1], AMPLE_AREA)
+answer("area of 12 bytes", sheet, 12)
+answer("no sheet and no area", None, 0)

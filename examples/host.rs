@@ -1,0 +1,94 @@
+//! A host in Rust: judges questions of plain numbers, and answers sheets. `compare/hosts` builds and runs it; by hand, from the repository's root:
+//!     rt staticlib binding
+//!     rustc -L native=target/staticlib -o host examples/host.rs && ./host examples/whole_example.sheet
+//! include/lifgorund.h says what each argument and each field is.
+
+const ONE_SIDED: i64 = 1;
+const TWO_SIDED: i64 = 2;
+const CLIMB: i64 = 1;
+const NO_LIMIT: i64 = 65_535;
+const CLEAR: u64 = 65;
+const CONFLICTS: u64 = 67;
+const REFUSED: u64 = 68;
+const AMPLE_AREA: usize = 26_624;
+
+#[repr(C)]
+struct JudgeResult {
+    kind: u64,
+    number: u64,
+    lower_seconds: u64,
+    lower_remainder: u64,
+    lower_divisor: u64,
+    upper_seconds: u64,
+    upper_remainder: u64,
+    upper_divisor: u64,
+}
+
+#[repr(C)]
+struct SheetResult {
+    refusal: u64,
+    length: u64,
+}
+
+#[link(name = "binding", kind = "static")]
+unsafe extern "C" {
+    // Takes any numbers and touches no memory.
+    #[rustfmt::skip]
+    safe fn judge_plain(
+        r: i64, h: i64, c: i64, v: i64, vi: i64, p: i64, k: i64, e: i64, sides: i64, sense: i64,
+        target: i64, upper_target: i64, strength: i64, upper_strength: i64, delay: i64, limit: i64,
+    ) -> JudgeResult;
+
+    fn answer_sheet_bytes(sheet: *const u8, sheet_length: usize, area: *mut u8, area_length: usize) -> SheetResult;
+}
+
+/// The answer records, or the refusal's number.
+fn answer_sheet<'a>(sheet: &[u8], area: &'a mut [u8]) -> Result<&'a [u8], u64> {
+    // SAFETY: two slices are valid for their lengths, and a `&` and a `&mut` do not overlap.
+    let result = unsafe { answer_sheet_bytes(sheet.as_ptr(), sheet.len(), area.as_mut_ptr(), area.len()) };
+    if result.refusal == 0 { Ok(&area[..result.length as usize]) } else { Err(result.refusal) }
+}
+
+fn show(name: &str, answer: JudgeResult) {
+    match answer.kind {
+        CLEAR => println!("{name}: clear, sides {}", answer.number),
+        REFUSED => println!("{name}: refused, {}", answer.number),
+        _ => {
+            print!("{name}: conflict at {} {}/{} s", answer.lower_seconds, answer.lower_remainder, answer.lower_divisor);
+            if answer.kind == CONFLICTS {
+                print!(", upper side at {} {}/{} s", answer.upper_seconds, answer.upper_remainder, answer.upper_divisor);
+            }
+            println!();
+        }
+    }
+}
+
+/// Climb to 1,500 from level flight, 300,000 grains ahead of an intruder at height h that closes at 10,000.
+fn climb(h: i64, strength: i64) -> JudgeResult {
+    judge_plain(300_000, h, 10_000, 0, 0, 30_000, 6_000, 966, ONE_SIDED, CLIMB, 1_500, 0, strength, 0, 0, NO_LIMIT)
+}
+
+fn answer(name: &str, sheet: &[u8], room: usize) {
+    let mut area = vec![0; room];
+    match answer_sheet(sheet, &mut area) {
+        Ok(bytes) => {
+            print!("{name}: refusal 0, length {},", bytes.len());
+            bytes.iter().for_each(|byte| print!(" {byte:02x}"));
+            println!();
+        }
+        Err(refusal) => println!("{name}: refusal {refusal}, length 0,"),
+    }
+}
+
+fn main() -> std::io::Result<()> {
+    let sheet = std::fs::read(std::env::args_os().nth(1).expect("a sheet's name"))?;
+    show("M1", climb(32_249, 500));
+    show("M2", climb(32_250, 500));
+    show("M13", judge_plain(0, 6_000, 0, 0, 0, 30_000, 6_000, 966, TWO_SIDED, CLIMB, 0, 0, 500, 500, 0, NO_LIMIT));
+    show("strength 0", climb(32_250, 0));
+    answer("whole example", &sheet, AMPLE_AREA);
+    answer("cut short", &sheet[..sheet.len() - 1], AMPLE_AREA);
+    answer("area of 12 bytes", &sheet, 12);
+    answer("no sheet and no area", &[], 0);
+    Ok(())
+}

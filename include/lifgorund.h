@@ -1,0 +1,133 @@
+/* Lifgorund: the judge of vertical collision-avoidance advisories, for programs in C and C++.
+ *
+ * Link target/staticlib/libbinding.a, which `rt staticlib binding` proves and builds (x86-64 Linux). It needs no other library.
+ * README.md says what a verdict means and how a sheet is written; examples/ has hosts in C, Rust and Python.
+ *
+ * Both functions end for every input, keep no state, allocate nothing and call nothing of the host, so any number of threads may
+ * call them at once. Their results are fixed by their arguments.
+ *
+ * Units: a grain is 1/60 foot, so 1 ft/min is 1 grain/s. Heights and upward speeds are positive upwards.
+ */
+#ifndef LIFGORUND_H
+#define LIFGORUND_H
+
+#include <stddef.h>
+#include <stdint.h>
+
+#ifdef __cplusplus
+extern "C" {
+#endif
+
+/* The kinds of a sheet's records, and the bytes of each record: one of kind, then its body. */
+enum {
+    LIFGORUND_ENCOUNTER = 1,          /* 21: r, h, c, v, vi */
+    LIFGORUND_PUCK = 2,               /* 9: p, k */
+    LIFGORUND_DELAY_ACCELERATION = 3, /* 5: e */
+    LIFGORUND_CODED_QUESTION = 4,     /* 4: code, limit */
+    LIFGORUND_FREE_QUESTION = 5       /* 23: sides, sense, target, upper target, strength, upper strength, delay, limit */
+};
+
+/* The kinds of answers: JudgeResult's kind, and the first byte of each answer record. */
+enum {
+    LIFGORUND_CLEAR = 65,        /* 2 bytes */
+    LIFGORUND_CONFLICT = 66,     /* 13: one-sided */
+    LIFGORUND_CONFLICTS = 67,    /* 25: two-sided, a time for each side */
+    LIFGORUND_REFUSED = 68,      /* 2: one question or setting */
+    LIFGORUND_SHEET_REFUSED = 69 /* 2: written by the program lifgorund alone, never by the functions below */
+};
+
+/* The sides of a clear answer: those that have no conflict. One-sided it is always the lower one. */
+enum {
+    LIFGORUND_LOWER_CLEAR = 1,
+    LIFGORUND_UPPER_CLEAR = 2,
+    LIFGORUND_BOTH_CLEAR = 3
+};
+
+/* Fields of a question. */
+enum {
+    LIFGORUND_ONE_SIDED = 1,
+    LIFGORUND_TWO_SIDED = 2,
+    LIFGORUND_DESCEND = 0,
+    LIFGORUND_CLIMB = 1,
+    LIFGORUND_NO_LIMIT = 65535
+};
+
+/* Refusals. 1 to 9 concern one record, 10 to 13 a whole sheet; judge_plain gives 1 to 6. */
+enum {
+    LIFGORUND_ACCEPTED = 0,
+    LIFGORUND_BAD_ENCOUNTER = 1,          /* a field of the encounter is outside its limits */
+    LIFGORUND_BAD_PUCK = 2,               /* p or k is outside its limits */
+    LIFGORUND_BAD_DELAY_ACCELERATION = 3, /* e is outside its limits */
+    LIFGORUND_BAD_SIDES = 4,              /* sides or sense is unknown */
+    LIFGORUND_BAD_ADVICE = 5,             /* target or strength outside limits; two-sided also an upper one, an upper strength below the
+                                             strength, or an upper target before the target in the sense; one-sided also an upper one not 0 */
+    LIFGORUND_BAD_TIMES = 6,              /* delay or limit outside limits, or a delay when two-sided */
+    LIFGORUND_NO_ENCOUNTER = 7,           /* a question before an accepted encounter */
+    LIFGORUND_UNKNOWN_CODE = 8,           /* a code outside 1 to 18 */
+    LIFGORUND_CODE_NOT_JUDGED = 9,        /* code 17 or 18 */
+    LIFGORUND_SHEET_TOO_LONG = 10,        /* more than 8,192 bytes */
+    LIFGORUND_UNKNOWN_KIND = 11,          /* a record of unknown kind */
+    LIFGORUND_CUT_SHORT = 12,             /* a record's body is cut short */
+    LIFGORUND_AREA_TOO_SHORT = 13         /* the answer area is shorter than the whole answer */
+};
+
+/* Lengths in bytes: of the longest sheet, and of an area that is long enough for the answer to any sheet. */
+enum {
+    LIFGORUND_LONGEST_SHEET = 8192,
+    LIFGORUND_AMPLE_AREA = 26624
+};
+
+/* What judge_plain answers. Fields that the kind does not use are 0. A time is seconds + remainder/divisor, in lowest terms: remainder
+ * is below divisor, and a whole time has remainder 0 and divisor 1. No time has divisor 0. */
+typedef struct JudgeResult {
+    uint64_t kind;   /* LIFGORUND_CLEAR, LIFGORUND_CONFLICT, LIFGORUND_CONFLICTS or LIFGORUND_REFUSED */
+    uint64_t number; /* of a clear answer the sides, of a refused one the refusal */
+    uint64_t lower_seconds; /* the lower side's time, of kinds LIFGORUND_CONFLICT and LIFGORUND_CONFLICTS */
+    uint64_t lower_remainder;
+    uint64_t lower_divisor;
+    uint64_t upper_seconds; /* the upper side's time, of kind LIFGORUND_CONFLICTS */
+    uint64_t upper_remainder;
+    uint64_t upper_divisor;
+} JudgeResult;
+
+/* Judges one question of plain numbers. Every argument may have any value: those outside the limits are refused, by the first of
+ * the refusals 1 to 6 that holds. It writes no memory. */
+JudgeResult judge_plain(
+    int64_t r,              /* distance ahead, in grains; negative: already passed. -12,000,000 to 12,000,000 */
+    int64_t h,              /* the intruder's height above the ownship, in grains. -480,000 to 480,000 */
+    int64_t c,              /* closing speed, in grains/s. 0 to 150,000 */
+    int64_t v,              /* the ownship's vertical speed, in grains/s. -10,000 to 10,000 */
+    int64_t vi,             /* the intruder's vertical speed, in grains/s. -10,000 to 10,000 */
+    int64_t p,              /* the puck's radius, in grains. 0 to 60,000; a sheet starts with 30,000 */
+    int64_t k,              /* the puck's half height, in grains. 1 to 12,000; a sheet starts with 6,000 */
+    int64_t e,              /* acceleration against the advice during the delay, in grains/s^2. 0 to 2,000; a sheet starts with 966 */
+    int64_t sides,          /* LIFGORUND_ONE_SIDED or LIFGORUND_TWO_SIDED */
+    int64_t sense,          /* LIFGORUND_DESCEND or LIFGORUND_CLIMB */
+    int64_t target,         /* the vertical speed to reach, positive upwards in both senses, in grains/s. -10,000 to 10,000 */
+    int64_t upper_target,   /* two-sided: the same for the upper path; one-sided: 0 */
+    int64_t strength,       /* acceleration towards the target, in grains/s^2. 1 to 2,000 */
+    int64_t upper_strength, /* two-sided: the same for the upper path, at least the strength; one-sided: 0 */
+    int64_t delay,          /* before the advice is followed, in whole seconds. 0 to 60; two-sided 0 */
+    int64_t limit);         /* until when to judge, in whole seconds. 0 to 600, or LIFGORUND_NO_LIMIT */
+
+/* What answer_sheet_bytes answers. */
+typedef struct SheetResult {
+    uint64_t refusal; /* LIFGORUND_ACCEPTED, or why the whole sheet is refused: 10 to 13 */
+    uint64_t length;  /* of an accepted sheet the answer's length in bytes, of a refused one 0 */
+} SheetResult;
+
+/* Answers a sheet: writes its answer records, one after the other, to the start of the area.
+ *
+ * Both blocks of memory are the host's. They are used during the call alone; the sheet is only read. Of the area only the answer's
+ * bytes change: none if the sheet is refused, and none past the answer.
+ * The blocks must not overlap, each must be valid for its length, and nothing else may write to them during the call.
+ * A pointer whose length is 0 is not followed, and may be null.
+ * Any bytes may stand in the sheet. An area of LIFGORUND_AMPLE_AREA bytes is never too short, and one of just the answer's length suffices.
+ */
+SheetResult answer_sheet_bytes(const uint8_t *sheet, size_t sheet_length, uint8_t *area, size_t area_length);
+
+#ifdef __cplusplus
+}
+#endif
+
+#endif
