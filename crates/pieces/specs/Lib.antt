@@ -1,0 +1,4 @@
+pub mod Pieces
+pub mod PieceSizes
+pub mod RightPieces
+pub mod Example
