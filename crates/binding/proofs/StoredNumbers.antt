@@ -7,10 +7,7 @@ use mir.Facts.{toZ-ofZ}
 use Rattle.question.specs.declared.Encounter.{Encounter}
 use Rattle.question.specs.declared.Settings.{Settings}
 use Rattle.question.specs.declared.Question.{Question}
-use Rattle.binding.specs.declared.JudgeResult.{JudgeResult}
-use Rattle.judge.specs.Answers.{answer}
 use Rattle.binding.specs.PlainNumbers.{plainEncounter, plainSettings, plainQuestion}
-use Rattle.binding.specs.Flat.{flatAnswer}
 
 -- a number stored in a word and read back
 abbrev stored : ℤ → ℤ
@@ -29,5 +26,6 @@ module _ {sides sense q q′ a b d l : ℤ} (fsides : SFits w64 sides) (fsense :
   pub stored-question : {z : Question} → z ≡ plainQuestion (stored sides) (stored sense) (stored q) (stored q′) (stored a) (stored b) (stored d) (stored l) → z ≡ plainQuestion sides sense q q′ a b d l
   stored-question e = rw (toZ-ofZ fsides, toZ-ofZ fsense, toZ-ofZ fq, toZ-ofZ fq′, toZ-ofZ fa, toZ-ofZ fb, toZ-ofZ fd, toZ-ofZ fl) at e
 
-pub same-result : {out : JudgeResult} {x x′ : Encounter} {y y′ : Settings} {z z′ : Question} → out ≡ flatAnswer (answer x y z) → x ≡ x′ → y ≡ y′ → z ≡ z′ → out ≡ flatAnswer (answer x′ y′ z′)
-same-result {x′ = x′} {y} {z = z} o e f g = o ∙ ap (λ (u : Encounter). flatAnswer (answer u y z)) e ∙ ap₂ (λ (v : Settings) (w : Question). flatAnswer (answer x′ v w)) f g
+-- what is computed of the same three is the same
+pub same-result : {R : Type 0} (of : Encounter → Settings → Question → R) {out : R} {x x′ : Encounter} {y y′ : Settings} {z z′ : Question} → out ≡ of x y z → x ≡ x′ → y ≡ y′ → z ≡ z′ → out ≡ of x′ y′ z′
+same-result of {x′ = x′} {y} {z = z} o e f g = o ∙ ap (λ (u : Encounter). of u y z) e ∙ ap₂ (λ (v : Settings) (w : Question). of x′ v w) f g

@@ -30,7 +30,7 @@ returns c =
     let s = q .before in
     let e = s .before in
     let f = e .before .fits in
-    same-result
+    same-result (λ x y z. flatAnswer (answer x y z))
     (c .flat-answer .ensures ∙ ap flatAnswer (record-determines (j .judge .result) (answer (e .plain-encounter .result) (s .plain-settings .result) (q .plain-question .result)) (j .judge .ensures)))
     (stored-encounter (f .r) (f .h) (f .c) (f .v) (f .vi) (e .plain-encounter .ensures))
     (stored-settings (f .p) (f .k) (f .e) (s .plain-settings .ensures))

@@ -1,0 +1,77 @@
+-- `refusals::times_within` meets its contract: the delay, the limit and the two-sided delay, in whatever order they are tested.
+use mathlib.Core.Path.{_≡_, sym, ap, ap₂, _∙_}
+use mathlib.Core.Bool.{Bool, true, false, not, _&&_, _||_, and-true, and-false}
+use borrow.Author.Needs.{needs}
+use borrow.Author.Tests.{not-true, not-false}
+use Rattle.question.specs.declared.Question.{Question}
+use Rattle.limits.specs.Limits.{delayWithin}
+use Rattle.question.specs.Refusals.{twoSided, noDelay, limitAllowed, timesWithin}
+use Rattle.refusals.proofs.times_within.Statement.{statement}
+use Rattle.refusals.proofs.times_within.Tie as tie
+
+-- the three tests, and what they say together
+module _ (z : Question) where
+  abbrev one-delay : Bool
+  one-delay = not (twoSided z) || noDelay z
+
+  delay-out : delayWithin (z .delay) ≡ false → false ≡ timesWithin z
+  delay-out e = ap (λ (b : Bool). (b && one-delay) && limitAllowed z) (sym e)
+
+  limit-out : limitAllowed z ≡ false → false ≡ timesWithin z
+  limit-out e = sym (ap (λ (b : Bool). (delayWithin (z .delay) && one-delay) && b) e ∙ and-false (delayWithin (z .delay) && one-delay))
+
+  both-in : delayWithin (z .delay) ≡ true → limitAllowed z ≡ true → one-delay ≡ timesWithin z
+  both-in e f = sym (ap₂ (λ (b l : Bool). (b && one-delay) && l) e f ∙ and-true one-delay)
+
+delay-within-requires : tie.Need-delay-within-requires
+delay-within-requires c κs = search needs
+
+returns : tie.Need-returns
+returns c = delay-out (c .before .before .args .question) (sym (c .before .delay-within .ensures) ∙ not-true _ (c .if1 .taken))
+
+limit-allowed-requires : tie.Need-limit-allowed-requires
+limit-allowed-requires c κs = search needs
+
+returns-2 : tie.Need-returns-2
+returns-2 c = limit-out (c .before .before .before .before .args .question) (sym (c .before .limit-allowed .ensures) ∙ not-true _ (c .if2 .taken))
+
+two-sided-requires : tie.Need-two-sided-requires
+two-sided-requires c κs = search needs
+
+no-delay-requires : tie.Need-no-delay-requires
+no-delay-requires c κs = search needs
+
+-- where the delay and the limit are within theirs, only a delay when two-sided is left
+module _ (l : tie.Else2) where
+  abbrev asked : Question
+  asked = l .before .before .before .before .args .question
+
+  left : one-delay asked ≡ timesWithin asked
+  left =
+      let d = l .before .before in
+      both-in asked (sym (d .before .delay-within .ensures) ∙ not-false _ (d .if1 .left)) (sym (l .before .limit-allowed .ensures) ∙ not-false _ (l .if2 .left))
+
+returns-3 : tie.Need-returns-3
+returns-3 c =
+    let t = c .before .before in
+    let z = asked (t .before) in
+    c .no-delay .ensures ∙ ap (λ (two : Bool). not two || noDelay z) (sym (sym (t .two-sided .ensures) ∙ c .before .if3 .taken)) ∙ left (t .before)
+
+returns-4 : tie.Need-returns-4
+returns-4 c =
+    let t = c .before in
+    let z = asked (t .before) in
+    ap (λ (two : Bool). not two || noDelay z) (sym (sym (t .two-sided .ensures) ∙ c .if3 .left)) ∙ left (t .before)
+
+pub times-within-spec : {M : Type 1} → statement M
+times-within-spec =
+    tie.close
+    (tie.spec
+    delay-within-requires
+    returns
+    limit-allowed-requires
+    returns-2
+    two-sided-requires
+    no-delay-requires
+    returns-3
+    returns-4)
