@@ -148,9 +148,7 @@ pub const DRAWING_CLASSES: [DrawingClass; 17] = [
         x.is_ok() && q.delay > 0 && pieces(x).len() == 2
     }),
     ("three pieces", |_, x| pieces(x).len() == 3),
-    ("u_d = q", |q, x| {
-        x.is_ok() && faster(q) == q.e * q.delay
-    }),
+    ("u_d = q", |q, x| x.is_ok() && faster(q) == q.e * q.delay),
     ("u_d > q", |q, x| x.is_ok() && faster(q) > q.e * q.delay),
     ("e = 0 in a delay: a straight", |q, x| {
         x.is_ok() && q.delay > 0 && q.e == 0 && pieces(x)[0].is_straight()
@@ -250,7 +248,10 @@ mod tests {
             piece(18, 17, 161, [0, 1_449_000, -58_978_350]),
         ];
         assert_eq!(drawing(&q), Ok(wanted));
-        assert_eq!(point(&q, 15), Ok((15, 233_289 * 225 - 6_998_670 * 15 + 17_496_675)));
+        assert_eq!(
+            point(&q, 15),
+            Ok((15, 233_289 * 225 - 6_998_670 * 15 + 17_496_675))
+        );
         assert_eq!(point(&q, 601), Err(6));
     }
 
@@ -270,7 +271,11 @@ mod tests {
                 let begun = |piece: &&Piece| piece.from.ratio() <= Ratio::whole(t);
                 let holds = pieces.iter().rfind(begun).expect("the first begins at 0");
                 let [x2, x1, x0] = holds.coefficients.map(i128::from);
-                assert_eq!((x2 * t + x1) * t + x0, i128::from(height), "{q} at {second}");
+                assert_eq!(
+                    (x2 * t + x1) * t + x0,
+                    i128::from(height),
+                    "{q} at {second}"
+                );
             }
         }
     }
