@@ -2,3 +2,5 @@ pub mod PlainAnswers
 pub mod SheetAnswers
 pub mod ProgramWrites
 pub mod Exported
+pub mod ScreenRight
+pub mod ScreenExported

@@ -1,5 +1,7 @@
 -- The exported judge meets the demands: its contract gives the numbers of the answer of the definitions.
 use mathlib.Core.Path.{refl}
+use Rattle.judge.specs.Answers.{answer}
+use Rattle.binding.specs.Flat.{flatAnswer}
 use Rattle.binding.proofs.StoredNumbers.{stored-encounter, stored-settings, stored-question, same-result}
 use Rattle.demands.proofs.Exported.{rightly-exported}
 use borrow.Author.Needs.{needs}
@@ -13,7 +15,7 @@ returns : tie.Need-returns
 returns c =
     let f = c .before .fits in
     rightly-exported _ _ _ (c .judge-plain .result)
-    (same-result (c .judge-plain .ensures)
+    (same-result (λ x y z. flatAnswer (answer x y z)) (c .judge-plain .ensures)
     (stored-encounter (f .r) (f .h) (f .c) (f .v) (f .vi) refl)
     (stored-settings (f .p) (f .k) (f .e) refl)
     (stored-question (f .sides) (f .sense) (f .target) (f .upper-target) (f .strength) (f .upper-strength) (f .delay) (f .limit) refl))
