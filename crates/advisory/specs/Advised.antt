@@ -4,7 +4,7 @@ use Prim.Native.Nat.{ℕ, _≤_}
 use lib.IntN.{ℤ, pos, negℤ}
 use lib.Signed.{_≤ℤ_}
 use Rattle.limits.specs.Limits.{maxSpeed, minStrength, maxStrength, maxDelay}
-use Rattle.advisory.specs.Catalogue.{catalogueOf, rateOf, Within, Outside}
+use Rattle.advisory.specs.Catalogue.{catalogueOf, rateOf, CodeWithin, CodeOutside}
 use Rattle.advisory.specs.ReactionTable.{reactionTable, rowOf}
 use Rattle.advisory.specs.declared.Advice.{Advice}
 use Rattle.advisory.specs.declared.Listing.{Listing}
@@ -38,9 +38,9 @@ instructionIn Advised.Unknown = none
 
 -- The codes of each answer: "8 code outside 1 to 18; 9 code 17 or 18", and the others are judged.
 abbrev pub Standing : ℕ → Advised → Type 0
-Standing code (Advised.Judged i) = Within 1 16 code
-Standing code Advised.NotJudged = Within 17 18 code
-Standing code Advised.Unknown = Outside 1 18 code
+Standing code (Advised.Judged i) = CodeWithin 1 16 code
+Standing code Advised.NotJudged = CodeWithin 17 18 code
+Standing code Advised.Unknown = CodeOutside 1 18 code
 
 -- Document 01's limits on strength, delay and target, the ownship's speed v being in its own.
 pub record InLimits (i : Instruction) : Type 0 where

@@ -10,7 +10,8 @@ use native.Mathlib.Nat.{one-dvd, dvd-zero, dvd-refl, dvd-antisymm, dvd-mul-left,
 use native.Mathlib.Omega.{arith}
 use lib.Arith.{digits-div, digits-mod}
 use Rattle.instant.specs.declared.Time.{Time}
-use Rattle.instant.specs.Order.{_÷_, _≈_, Sized}
+use Rattle.instant.specs.Order.{_÷_, _≈_}
+use Rattle.instant.specs.inner.Sizes.{SizedInstant}
 use Rattle.instant.specs.Lowest.{shows, LowestTerms, gcd, wholeTime, reduced, lowest, SizedTime}
 use Rattle.instant.proofs.Euclid.{gcd-greatest, gcd-pos, gcd-scale, euclids-lemma}
 use Rattle.instant.proofs.TimeOrder.{≈-sym, ≈-trans, scaled-≈}
@@ -138,7 +139,7 @@ pub divisor-le : (n m : ℕ) → lowest n m .divisor ≤ m
 divisor-le n zero = zero-le
 divisor-le n (suc m) = div-le-self (suc m) _
 
-pub lowest-sized : (n m : ℕ) → Sized (n ÷ m) → SizedTime (lowest n m)
+pub lowest-sized : (n m : ℕ) → SizedInstant (n ÷ m) → SizedTime (lowest n m)
 lowest-sized n m h =
     record {
       seconds = lt-of-le-of-lt (seconds-le n m) (h .n);

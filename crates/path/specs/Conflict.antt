@@ -1,15 +1,14 @@
--- Conflict on a side: "t in the window and w × h + k ≥ f(t)"; upper: "t in the window and w × h − k ≤ j(t)".
-use mathlib.Core.Bool.{Bool, _&&_}
+-- "Lower conflict at t: t in the window and w × h + k ≥ f(t). Upper conflict: t in the window and w × h − k ≤ j(t)." s is a sensed question.
 use Prim.Native.Nat.{ℕ, _≤_}
 use lib.IntN.{ℤ, pos, _+ℤ_, _-ℤ_, _*ℤ_}
-use lib.Signed.{_≤ℤ_, leZ}
+use lib.Signed.{_≤ℤ_}
 use Rattle.instant.specs.declared.Instant.{Instant}
 use Rattle.path.specs.declared.SensedQuestion.{SensedQuestion}
 use Rattle.path.specs.declared.Side.{Side}
 use Rattle.path.specs.declared.Side.the-variants.{Lower, Upper}
 use Rattle.path.specs.Letters.{k, wh, a, b}
-use Rattle.path.specs.Paths.{adviceGain, delayHeight, continued, lowerPath, upperPath}
-use Rattle.path.specs.Window.{Window, inWindow}
+use Rattle.path.specs.Paths.{lowerPath, upperPath}
+use Rattle.path.specs.Window.{Window}
 
 -- The puck's edge that a path must be strictly beyond, on the path's scale: w × h + k, times 2 × a × m²; w × h − k, times 2 × b × m²
 abbrev pub lowerEdge : SensedQuestion → ℕ → ℤ
@@ -35,13 +34,3 @@ pub record ConflictTime (side : Side) (s : SensedQuestion) (t : Instant) : Type 
 
 abbrev pub ConflictExists : Side → SensedQuestion → Type 0
 ConflictExists side s = (t : Instant) × ConflictTime side s t
-
--- the same as tests
-unfoldable pub notBeyond : Side → SensedQuestion → ℕ → ℕ → Bool
-unfolding adviceGain delayHeight continued
-notBeyond Lower s n m = leZ (lowerPath s n m) (lowerEdge s m)
-notBeyond Upper s n m = leZ (upperEdge s m) (upperPath s n m)
-
-unfoldable pub inConflict : Side → SensedQuestion → ℕ → ℕ → Bool
-unfolding inWindow notBeyond
-inConflict side s n m = inWindow s n m && notBeyond side s n m

@@ -41,21 +41,12 @@ recordOf Kind.Coded body = Record.Coded (byteAt body 0) (pos (shortAt body 1))
 recordOf Kind.Free body = Record.Free (questionIn body)
 recordOf Kind.Unknown body = Record.Unknown
 
--- the records of the bytes that follow, after so many bytes of a body are passed
+-- the records of the bytes that follow, where so many bytes of a body are left to pass over first
 unfoldable pub recordsAfter : ℕ → List ℕ → List Record
-recordsAfter passed [] = []
+recordsAfter left [] = []
 recordsAfter (suc left) (byte ∷ rest) = recordsAfter left rest
 recordsAfter zero (kind ∷ rest) = recordOf (kindOf kind) rest ∷ recordsAfter (bodyLength (kindOf kind)) rest
 
 -- a sheet's records, in order
 abbrev pub records : List ℕ → List Record
 records = recordsAfter 0
-
--- the kinds of those records
-unfoldable pub kindsAfter : ℕ → List ℕ → List Kind
-kindsAfter passed [] = []
-kindsAfter (suc left) (byte ∷ rest) = kindsAfter left rest
-kindsAfter zero (kind ∷ rest) = kindOf kind ∷ kindsAfter (bodyLength (kindOf kind)) rest
-
-abbrev pub kinds : List ℕ → List Kind
-kinds = kindsAfter 0

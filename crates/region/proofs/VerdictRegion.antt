@@ -20,7 +20,7 @@ use Rattle.advisory.specs.declared.Sense.the-variants.{Climb, Descend}
 use Rattle.advisory.specs.declared.Instruction.{Instruction}
 use Rattle.advisory.specs.declared.Advised.{Advised}
 use Rattle.advisory.specs.Sign.{sensed}
-use Rattle.advisory.specs.Catalogue.{rateOf, Within}
+use Rattle.advisory.specs.Catalogue.{rateOf, CodeWithin}
 use Rattle.advisory.specs.Advised.{advisedOf, instructionIn, InLimits, Standing}
 use Rattle.advisory.proofs.CodeRanges.{standing}
 use Rattle.advisory.proofs.Limits.{in-limits}
@@ -184,7 +184,7 @@ module _ (x : Encounter) (y : Settings) (encounter : encounterWithin x ≡ true)
       }
 
   -- every one of the sixteen codes
-  pub sixteen-codes : (code : ℕ) → Within 1 16 code → CodeClearExactly x y code
+  pub sixteen-codes : (code : ℕ) → CodeWithin 1 16 code → CodeClearExactly x y code
   sixteen-codes code range = go (advisedOf code) refl (standing code byte)
     where
       byte : code < 256

@@ -44,13 +44,22 @@ pub record ClearExactly (x : Encounter) (y : Settings) (z : Question) (region : 
   pub by-result : (result : Answer) → answerRecord result ≡ answerRecord (answer x y z) → (answerRecord result ≡ clearRecord) ↔ Says region
 
 -- D_expl for an encounter and settings, with w, v_lo, a_lo and δ of a line of Table 1; where v_lo is printed as v, it is the ownship's. Speeds are
--- relative to the intruder's.
+-- relative to the intruder's. The letters are those of Figure5.antt.
 unfoldable pub advisoryRegion : Encounter → Settings → Instruction → Formula
 advisoryRegion x y line =
     let w = sensed (line .sense) in
     let v-lo = rateOf (line .target) (x .speed) in
-    D-explᵈ (x .«closing_speed») (y .radius) (y .«half_height») (pos (line .strength)) (y .«delay_acceleration») (pos (line .delay))
-    (x .distance) (pos 2 *ℤ w (x .height)) (w (x .speed -ℤ x .«intruder_speed»)) (w (v-lo -ℤ x .«intruder_speed»))
+    let c = x .«closing_speed» in
+    let p = y .radius in
+    let k = y .«half_height» in
+    let a = pos (line .strength) in
+    let e = y .«delay_acceleration» in
+    let d = pos (line .delay) in
+    let r = x .distance in
+    let 2wh = pos 2 *ℤ w (x .height) in
+    let u = w (x .speed -ℤ x .«intruder_speed») in
+    let q = w (v-lo -ℤ x .«intruder_speed») in
+    D-explᵈ c p k a e d r 2wh u q
 
 -- A code without a limit asks a question that the judge accepts, and calls clear exactly in the region of the code's line of Table 1
 pub record CodeClearExactly (x : Encounter) (y : Settings) (code : ℕ) : Type 0 where

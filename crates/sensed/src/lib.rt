@@ -38,7 +38,7 @@ fn in_sense(sense: Sense, x: i64) -> i64
 fn limit_of(limit: i64) -> Limit
     ensures { λ r. ⌜ r ≡ limitOf limit ⌝ }
 {
-    if NO_LIMIT <= limit {
+    if (NO_LIMIT <= limit) & (limit <= NO_LIMIT) {
         return Limit::Unlimited;
     }
     Limit::Upto(positive_part(limit))

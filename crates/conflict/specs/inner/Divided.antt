@@ -1,3 +1,4 @@
+-- Definitions that only inner contracts use; an instructor need not read them.
 -- The comparisons of `path` with a common factor of their two sides divided out. `path` compares times 2 × a × m² (upper: 2 × b × m²), which does
 -- not fit 64 bits. The two sides for an arc share the strength, which leaves 2 × m²; those for a straight share m, which leaves 2 × a × m.
 use mathlib.Core.Bool.{Bool}

@@ -1,4 +1,5 @@
--- Only inner contracts use these: the bytes that a walk over a sheet writes, none where it only counts, and the room that it needs.
+-- Definitions that only inner contracts use; an instructor need not read them.
+-- The bytes that a walk over a sheet writes, none where it only counts, and the room that it needs.
 use mathlib.Core.Bool.{Bool, true, false}
 use mathlib.Core.List.{List, []}
 use Prim.Native.Nat.{ℕ}

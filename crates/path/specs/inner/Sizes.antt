@@ -1,3 +1,4 @@
+-- Definitions that only inner contracts use; an instructor need not read them.
 -- The sizes that a sensed question has where document 01's limits hold (`limits`): the inner functions ask for them, and whoever calls these shows them
 -- from the refusals.
 use Prim.Native.Nat.{ℕ, _+_, _*_, _≤_}

@@ -1,10 +1,11 @@
+-- Definitions that only inner contracts use; an instructor need not read them.
 -- The sizes of an advice rule, which follow from those of its question (`path`, Sizes): what keeps its comparisons within 64 bits.
 use Prim.Native.Nat.{ℕ, _+_, _*_, _≤_}
 use lib.IntN.{natAbs}
 use Rattle.limits.specs.Limits.{maxHeight, maxHalfHeight, minStrength, maxStrength, maxDelayAcceleration, maxDelay}
 use Rattle.path.specs.declared.Side.{Side}
 use Rattle.path.specs.declared.Side.the-variants.{Lower, Upper}
-use Rattle.path.specs.Sizes.{maxSpeedDifference, maxSpeedAfterDelay}
+use Rattle.path.specs.inner.Sizes.{maxSpeedDifference, maxSpeedAfterDelay}
 use Rattle.conflict.specs.declared.AdviceRule.{AdviceRule}
 
 -- twice the height f_d, 2 × u × d − e × d², at most
