@@ -107,7 +107,7 @@ catalogueOf code =
 abbrev pub Listed : ℕ → Type 0
 Listed code = (advice : Advice) × (catalogueOf code ≡ Article advice)
 
--- A code of a range, as "1 to 16", and a code outside one.
+-- A code of a range, as 1 to 16, and a code outside one.
 abbrev pub CodeWithin : ℕ → ℕ → ℕ → Type 0
 CodeWithin low high code = (low ≤ code) × (code ≤ high)
 

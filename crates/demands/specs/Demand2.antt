@@ -56,7 +56,7 @@ identical-codes = tables.listed-has-one-row
 pub rows-are-listed : (place : ℕ) (row : Reaction) → rowAt reactionTable place ≡ Row row → Listed (row .code)
 rows-are-listed = tables.row-is-listed
 
--- the names are Table 1's, in its order, with the codes from 1 on; g/4 and g/3 are whole; "codes 17 (COC) and 18 (MTLO) are named but not judged, and are in neither
+-- the names are Table 1's, in its order, with the codes from 1 on; g/4 and g/3 are whole; "Codes 17 (COC) and 18 (MTLO) are named but not judged, and are in neither
 -- table"
 pub names : map tables.codeAndName articleEntries ≡ numbered 1 table1
 names = tables.names-are-table-1

@@ -84,7 +84,7 @@ pub record SheetAnswered (sheet before after : List ℕ) (o : Outcome) : Type 0 
   pub accepted : sheetCheck sheet ≡ Checked.Accepted → length (sheetAnswer sheet) ≤ length before → o ≡ Accepted (length (sheetAnswer sheet))
   -- "no byte changed"
   pub unchanged : (number : ℕ) → o ≡ Refused number → after ≡ before
-  -- "bytes past the answer keep their values"
+  -- "Bytes past the answer keep their values."
   pub written : (size : ℕ) → o ≡ Accepted size → after ≡ sheetAnswer sheet ++ drop size before
   pub each : EachRecord sheet (sheetAnswer sheet)
 

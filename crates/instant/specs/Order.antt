@@ -1,5 +1,5 @@
 -- Rational times and their order: "A rational time is n/m with whole n ≥ 0 and m ≥ 1; each comparison at it is multiplied through by its divisors, all
--- positive, so that only whole numbers are compared" (document 01, "Paths and conflict").
+-- positive (m, m², 2, a or b), so that only whole numbers are compared" (document 01, "Paths and conflict").
 use mathlib.Core.Bool.{Bool, cond}
 use mathlib.Core.Path.{_≡_}
 use Prim.Native.Nat.{ℕ, _*_, _≤_, _<_}

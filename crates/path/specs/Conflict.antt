@@ -17,7 +17,7 @@ lowerEdge s m = pos 2 *ℤ pos (a s) *ℤ pos m *ℤ pos m *ℤ (wh s +ℤ pos (
 abbrev pub upperEdge : SensedQuestion → ℕ → ℤ
 upperEdge s m = pos 2 *ℤ pos (b s) *ℤ pos m *ℤ pos m *ℤ (wh s -ℤ pos (k s))
 
--- "Not strictly beyond it vertically" at n/m: the edges count
+-- "not strictly beyond it vertically" at n/m: the edges count
 abbrev pub NotBeyond : Side → SensedQuestion → ℕ → ℕ → Type 0
 NotBeyond Lower s n m = lowerPath s n m ≤ℤ lowerEdge s m
 NotBeyond Upper s n m = upperEdge s m ≤ℤ upperPath s n m
@@ -27,7 +27,7 @@ pub record Conflict (side : Side) (s : SensedQuestion) (n m : ℕ) : Type 0 wher
   pub window : Window s n m
   pub vertical : NotBeyond side s n m
 
--- "Such a time": a rational time, n ≥ 0 and m ≥ 1, with a conflict on the side
+-- A conflict time on the side: "n/m with whole n ≥ 0 and m ≥ 1"; and that there is one
 pub record ConflictTime (side : Side) (s : SensedQuestion) (t : Instant) : Type 0 where
   pub divisor : 1 ≤ t .m
   pub conflict : Conflict side s (t .n) (t .m)

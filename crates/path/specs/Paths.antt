@@ -1,5 +1,5 @@
 -- The ownship's sensed heights (document 01, "Paths and conflict"), from the level that moves with the intruder (`Letters`). A time t is n/m seconds.
--- "Each comparison at it is multiplied through by its divisors": a height f at n/m stands as 2 × a × m² × f on the lower side, 2 × b × m² × j on the
+-- Since "each comparison at it is multiplied through by its divisors", a height f at n/m stands as 2 × a × m² × f on the lower side, 2 × b × m² × j on the
 -- upper, which is whole.
 use mathlib.Core.Bool.{cond}
 use Prim.Native.Nat.{ℕ, _*_, _-_}
@@ -31,7 +31,7 @@ continued times-before before end times-after after n m =
     (pos times-before *ℤ before n m)
     (pos times-before *ℤ before (end * m) m +ℤ pos times-after *ℤ after (n - end * m) m)
 
--- "Speed there is u_d = u − e × d"
+-- the speed at d: "speed there is u_d = u − e × d"
 abbrev pub u-d : SensedQuestion → ℤ
 u-d question = u question -ℤ pos (e question) *ℤ pos (d question)
 

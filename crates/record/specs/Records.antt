@@ -9,7 +9,7 @@ use Rattle.record.specs.declared.Record.{Record}
 use Rattle.record.specs.Numbers.{byteAt, shortAt, numberAt}
 use Rattle.record.specs.Kinds.{kindOf, bodyLength}
 
--- "Encounter, 20 bytes: r, h, c, v, vi"
+-- "encounter, 20 bytes: r, h, c, v, vi"
 unfoldable pub encounterIn : List ℕ → Encounter
 encounterIn body = record {
   distance = numberAt body 0;
@@ -19,7 +19,7 @@ encounterIn body = record {
   «intruder_speed» = numberAt body 16;
 }
 
--- "Free question, 22: sides 1 or 2 (1); sense 0 descend or 1 climb (1); target, upper target, strength, upper strength (4 each); delay, limit (2 each)"
+-- "free question, 22: sides 1 or 2 (1); sense 0 descend or 1 climb (1); target, upper target, strength, upper strength (4 each); delay, limit (2 each)"
 unfoldable pub questionIn : List ℕ → Question
 questionIn body = record {
   sides = pos (byteAt body 0);
@@ -32,7 +32,7 @@ questionIn body = record {
   limit = pos (shortAt body 20);
 }
 
--- "Puck, 8: p, k"; "delay acceleration, 4: e"; "coded question, 3: code (1), limit (2)". A record of unknown kind has no body; its sheet is refused.
+-- "puck, 8: p, k"; "delay acceleration, 4: e"; "coded question, 3: code (1), limit (2)". A record of unknown kind has no body; its sheet is refused.
 abbrev pub recordOf : Kind → List ℕ → Record
 recordOf Kind.Encounter body = Record.Encounter (encounterIn body)
 recordOf Kind.Puck body = Record.Puck (numberAt body 0) (numberAt body 4)

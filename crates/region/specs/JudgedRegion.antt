@@ -26,7 +26,7 @@ use Rattle.judge.specs.Answers.{answer, answerRecord, AnswerRecord, answers}
 use Rattle.region.specs.Formula.{Formula, Says}
 use Rattle.region.specs.Figure5.{D-explᵈ}
 
--- "Clear" of a one-sided question, as verdict, as answer and as record: "kind 65 clear, .. one-sided always 1"
+-- Clear, of a one-sided question, as verdict, as answer and as record: "kind 65 clear, .. one-sided always 1"
 abbrev pub clearVerdict : Verdict
 clearVerdict = Verdict.Clear ClearSides.Lower
 

@@ -32,6 +32,6 @@ examplesWith test = filter {p = λ (m : Example). asks test (m .question) ≡ tr
 abbrev pub inRegion : (SensedQuestion → Formula) → Example → Bool
 inRegion region m = asks (λ z. holds (region (sensedQuestion (m .encounter) startingSettings z))) (m .question)
 
--- "Kind 65 clear"
+-- "kind 65 clear"
 abbrev pub isClear : Example → Bool
 isClear m = eqb (m .answer .kind) 65

@@ -37,12 +37,12 @@ ruleNotBeyond side rule n m =
 abbrev pub missing : AdviceRule → ℕ
 missing rule = max0 (rule .target -ℤ rule .speed)
 
--- "While s < G/a, u_d × s + a × s²/2", at s = n/m, times 2 × m²
+-- while s < G/a: u_d × s + a × s²/2 at s = n/m, times 2 × m²
 abbrev pub arcNotBeyond : Side → AdviceRule → ℕ → ℕ → Bool
 arcNotBeyond side rule n m =
     heightNotBeyond side (pos 2 *ℤ rule .speed *ℤ pos n *ℤ pos m +ℤ pos (rule .strength) *ℤ pos n *ℤ pos n) (pos m *ℤ pos m *ℤ rule .edge)
 
--- "From then on q × s − G²/(2 × a)", times 2 × a × m
+-- from then on: q × s − G²/(2 × a), times 2 × a × m
 abbrev pub straightNotBeyond : Side → AdviceRule → ℕ → ℕ → Bool
 straightNotBeyond side rule n m =
     heightNotBeyond side
