@@ -9,7 +9,8 @@ use lib.Dec.{T, leb, leb→le, le→leb, nleb→lt}
 use mir.Facts.{and-yes, yes-and, and-no}
 use Rattle.advisory.specs.Catalogue.{articleEntries, notJudged, among, articleCodes, notJudgedCodes, catalogueOf, Listed, CodeWithin}
 use Rattle.advisory.specs.ReactionTable.{reactionTable}
-use Rattle.advisory.specs.Advised.{advisedOf, Standing}
+use Rattle.advisory.specs.Advised.{advisedOf}
+use Rattle.advisory.specs.inner.Codes.{Standing}
 use Rattle.advisory.specs.declared.Advice.{Advice}
 use Rattle.advisory.specs.declared.Listing.{Listing}
 use Rattle.advisory.specs.declared.Advised.{Advised}

@@ -1,10 +1,9 @@
 -- The catalogue of document 01: "The catalogue gives the sense and target of each code."
 use mathlib.Core.Path.{_≡_}
-use mathlib.Core.Logic.{_⊎_}
 use mathlib.Core.Bool.{Bool, false, cond, _||_}
 use mathlib.Core.List.{List, [], _∷_, map}
 use Prim.Native.String.{String}
-use Prim.Native.Nat.{ℕ, _%_, _≤_, _<_}
+use Prim.Native.Nat.{ℕ, _%_, _≤_}
 use lib.Dec.{eqb}
 use lib.IntN.{ℤ, pos, negℤ}
 use Rattle.advisory.specs.declared.Sense.{Sense}
@@ -107,9 +106,6 @@ catalogueOf code =
 abbrev pub Listed : ℕ → Type 0
 Listed code = (advice : Advice) × (catalogueOf code ≡ Article advice)
 
--- A code of a range, as 1 to 16, and a code outside one.
+-- A code of a range, as 1 to 16.
 abbrev pub CodeWithin : ℕ → ℕ → ℕ → Type 0
 CodeWithin low high code = (low ≤ code) × (code ≤ high)
-
-abbrev pub CodeOutside : ℕ → ℕ → ℕ → Type 0
-CodeOutside low high code = (code < low) ⊎ (high < code)

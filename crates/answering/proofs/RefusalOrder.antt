@@ -15,7 +15,8 @@ use Rattle.advisory.specs.declared.Instruction.{Instruction}
 use Rattle.advisory.specs.declared.Sense.{Sense}
 use Rattle.advisory.specs.declared.Sense.the-variants.{Climb, Descend}
 use Rattle.advisory.specs.Catalogue.{rateOf}
-use Rattle.advisory.specs.Advised.{advisedOf, Standing, InLimits}
+use Rattle.advisory.specs.Advised.{advisedOf}
+use Rattle.advisory.specs.inner.Codes.{Standing, InLimits}
 use Rattle.advisory.proofs.CodeRanges.{standing}
 use Rattle.advisory.proofs.Limits.{in-limits}
 use Rattle.question.specs.declared.Encounter.{Encounter}

@@ -4,14 +4,11 @@ use Prim.Native.Nat.{ℕ}
 use Prim.Native.String.{String}
 use lib.IntN.{ℤ, pos, negℤ}
 use Rattle.question.specs.declared.Encounter.{Encounter}
-use Rattle.question.specs.declared.Settings.{Settings}
 use Rattle.question.specs.declared.Question.{Question}
 use Rattle.coded.specs.declared.CodedQuestion.{CodedQuestion}
-use Rattle.judge.specs.declared.Answer.{Answer}
 use Rattle.limits.specs.Limits.{noLimit}
-use Rattle.question.specs.StartingSettings.{startingSettings}
 use Rattle.coded.specs.Coded.{codedQuestion}
-use Rattle.judge.specs.Answers.{answer, AnswerRecord, answers, answerRecord}
+use Rattle.judge.specs.Answers.{answer, AnswerRecord, answers}
 
 -- an example: its name, its encounter, what is asked there, and the answer
 pub record Example : Type 0 where
@@ -71,11 +68,3 @@ examples =
     ∷ example "M14" (meet (negℤ (pos 30001)) (pos 0) (pos 10000) (pos 0)) (climb (pos 0) noLimit) (clear 1)
     ∷ example "M15" (meet (negℤ (pos 30000)) (negℤ (pos 6000)) (pos 10000) (pos 0)) (climb (pos 0) noLimit) (conflictAt 0 0 1)
     ∷ []
-
--- the answer to what is asked, freely or by code
-abbrev pub answerTo : Encounter → Settings → CodedQuestion → Answer
-answerTo x y (CodedQuestion.Asked z) = answer x y z
-answerTo x y (CodedQuestion.Refused n) = Answer.Refused n
-
-abbrev pub answered : Example → AnswerRecord
-answered m = answerRecord (answerTo (m .encounter) startingSettings (m .question))

@@ -1,3 +1,4 @@
+-- Definitions that only proofs and inner contracts use; an instructor need not read them.
 -- The M examples that Figures 3 and 5 speak of, picked from the judge's table by a test, and what the figures say of each.
 use mathlib.Core.Path.{_≡_}
 use mathlib.Core.Bool.{Bool, true, false, not, _&&_, Bool-discrete}
@@ -11,7 +12,8 @@ use Rattle.question.specs.Refusals.{isNumber, twoSided, noDelay}
 use Rattle.limits.specs.Limits.{noLimit}
 use Rattle.sensed.specs.Sensed.{sensedQuestion}
 use Rattle.judge.specs.Examples.{Example, examples}
-use Rattle.region.specs.Formula.{Formula, holds}
+use Rattle.region.specs.Formula.{Formula}
+use Rattle.region.specs.inner.Holds.{holds}
 
 -- Figure 5: one-sided, no limit; Figure 3: also no delay
 abbrev pub delayedAllowed : Question → Bool
