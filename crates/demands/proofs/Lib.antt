@@ -2,3 +2,4 @@ pub mod PlainAnswers
 pub mod SheetAnswers
 pub mod ProgramWrites
 pub mod Exported
+pub mod MarkedAnswers
