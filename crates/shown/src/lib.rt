@@ -119,7 +119,7 @@ fn shown_at(side: Side, s: SensedQuestion, t: Instant) -> Moment
 }
 
 // The window's end is in the window where its start is; without an end the search is left.
-fn end_or_search(side: Side, s: SensedQuestion) -> Moment
+fn from_end(side: Side, s: SensedQuestion) -> Moment
     requires { ⌜ Sized side s ⌝ }
     requires { ⌜ Opened s × Tried side s ⌝ }
     ensures { λ t. ⌜ t ≡ shownFrom side s (listed (windowEnd s)) ⌝ }
@@ -129,15 +129,6 @@ fn end_or_search(side: Side, s: SensedQuestion) -> Moment
         Moment::Never => from_search(side, s),
         Moment::At(t) => shown_at(side, s, t),
     }
-}
-
-// A function of its own: the question is then copied for the call only where the end is tried.
-fn from_end(side: Side, s: SensedQuestion) -> Moment
-    requires { ⌜ Sized side s ⌝ }
-    requires { ⌜ Opened s × Tried side s ⌝ }
-    ensures { λ t. ⌜ t ≡ shownFrom side s (listed (windowEnd s)) ⌝ }
-{
-    end_or_search(side, s)
 }
 
 // Where the path's lowest point after the delay lies.

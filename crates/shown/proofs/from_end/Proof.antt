@@ -1,4 +1,4 @@
--- `shown::end_or_search` meets its contract: at the window's end the path decides, and without an end the search is left.
+-- `shown::from_end` meets its contract: at the window's end the path decides, and without an end the search is left.
 use mathlib.Core.Path.{_≡_, sym, _∙_}
 use borrow.Author.Needs.{needs}
 use Rattle.instant.specs.declared.Moment.the-variants.{At}
@@ -6,8 +6,8 @@ use Rattle.path.specs.Window.{windowEnd}
 use Rattle.path.proofs.SideSizes.{sizes-of}
 use Rattle.shown.proofs.InstantsInReach.{end-reach}
 use Rattle.shown.proofs.OpenWindow.{end-shown, search-shown}
-use Rattle.shown.proofs.end_or_search.Statement.{statement}
-use Rattle.shown.proofs.end_or_search.Tie as tie
+use Rattle.shown.proofs.from_end.Statement.{statement}
+use Rattle.shown.proofs.from_end.Tie as tie
 
 window-end-requires : tie.Need-window-end-requires
 window-end-requires c κs = sizes-of (c .args .side) (c .args .s) (c .pre .0)
@@ -43,5 +43,5 @@ returns-2 c =
     let z = d .before .before .before in
     c .shown-at .ensures ∙ end-shown (z .args .s) (z .pre .1 .0) (z .args .side) (d .end .given .0 .0) (end-is d)
 
-pub end-or-search-spec : {M : Type 1} → statement M
-end-or-search-spec = tie.close (tie.spec window-end-requires enum-told from-search-requires enum-known-end shown-at-requires returns returns-2)
+pub from-end-spec : {M : Type 1} → statement M
+from-end-spec = tie.close (tie.spec window-end-requires enum-told from-search-requires enum-known-end shown-at-requires returns returns-2)
