@@ -643,7 +643,7 @@ fn sheet_of(random: &mut Random, count: u64) -> Vec<u8> {
 }
 
 /// A sheet of whole records of just this length, at least 60.
-fn sheet_of_length(random: &mut Random, length: usize) -> Vec<u8> {
+pub fn sheet_of_length(random: &mut Random, length: usize) -> Vec<u8> {
     let mut sheet = Vec::new();
     loop {
         let before = sheet.len();
@@ -667,7 +667,7 @@ fn sheet_of_length(random: &mut Random, length: usize) -> Vec<u8> {
 }
 
 /// The sheet with the largest answer: one encounter, then coded conflicts of 13 bytes each.
-fn largest_answer() -> Vec<u8> {
+pub fn largest_answer() -> Vec<u8> {
     let q = Question {
         h: -6_000,
         c: 10_000,

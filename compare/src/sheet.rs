@@ -136,24 +136,32 @@ fn judge(q: &Question) -> Answer {
     independent::judge_accepted(&Accepted::of(q).expect("settings are within limits"))
 }
 
+/// The free question that a code stands for, with the encounter, the settings and the limit of `q`; or
+/// the refusal of the code.
+pub fn coded_question(q: &Question, code: u8) -> Result<Question, u8> {
+    let advice = catalogue::look_up(code)?;
+    Ok(Question {
+        sides: 1,
+        sense: advice.sense,
+        target: match advice.target {
+            Target::Speed(speed) => speed,
+            Target::Current => q.v,
+        },
+        upper_target: 0,
+        strength: advice.strength,
+        upper_strength: 0,
+        delay: advice.delay,
+        ..*q
+    })
+}
+
 fn coded(settings: &Settings, code: u8, limit: i64) -> Answer {
     let Some(q) = under(settings) else {
         return Answer::Refused(7);
     };
-    match catalogue::look_up(code) {
+    match coded_question(&Question { limit, ..q }, code) {
         Err(number) => Answer::Refused(number),
-        Ok(advice) => judge(&Question {
-            sides: 1,
-            sense: advice.sense,
-            target: match advice.target {
-                Target::Speed(speed) => speed,
-                Target::Current => q.v,
-            },
-            strength: advice.strength,
-            delay: advice.delay,
-            limit,
-            ..q
-        }),
+        Ok(question) => judge(&question),
     }
 }
 
@@ -241,6 +249,11 @@ pub fn answer_bytes(sheet: &[u8]) -> Result<Vec<u8>, u8> {
         response.answer.record(&mut bytes);
     }
     Ok(bytes)
+}
+
+/// What the program writes: the whole answer, or kind 69 and the refusal.
+pub fn program_bytes(sheet: &[u8]) -> Vec<u8> {
+    answer_bytes(sheet).unwrap_or_else(|number| vec![69, number])
 }
 
 /// Writes the whole answer to the front of the area and gives its length, or gives the refusal, 10

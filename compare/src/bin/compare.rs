@@ -1,13 +1,16 @@
 //! compare [COUNT] [SEED]: holds the proved judge against the independent implementation on COUNT
 //! plain questions (10 million) and a hundredth as many sheets, and on the worked questions and
-//! sheets. The status is 0 only if no answer differs and every required class was met. Sheets want
-//! the feature `sheets`.
+//! sheets; then the program that JUDGE_PROGRAM names, on its standard input and output. The status is 0
+//! only if no answer differs and every required class was met. Sheets want the feature `sheets`.
 
 use compare::check::{self, Tally, argument};
 use compare::examples;
 use compare::ffi::{self, JudgeResult};
 use compare::generate::{self, Random};
-use compare::independent::{Accepted, NAMES, Question, judge};
+use compare::independent::{Accepted, NAMES, Question};
+use compare::program;
+use compare::worked;
+use std::path::Path;
 use std::process::ExitCode;
 use std::time::Instant;
 
@@ -83,9 +86,11 @@ fn main() -> ExitCode {
     let began = Instant::now();
     let mut tally = Tally::default();
     check::examples(&mut tally);
-    for group in examples::worked() {
-        for (name, q) in group.cases {
-            question(&mut tally, || name.clone(), &q, JudgeResult::of(&judge(&q)));
+    for case in worked::groups().into_iter().flat_map(|group| group.cases) {
+        // A code that is refused has no plain question.
+        if let Ok(q) = case.free() {
+            let wanted = JudgeResult::of(&case.answer());
+            question(&mut tally, || case.name.clone(), &q, wanted);
         }
     }
     let mut random = Random::new(seed);
@@ -101,6 +106,10 @@ fn main() -> ExitCode {
         progress("questions", i + 1, count, &tally, began);
     }
     sheets(&mut tally, count.div_ceil(100), seed, began);
+    match std::env::var_os("JUDGE_PROGRAM") {
+        Some(path) => program::compare(&mut tally, Path::new(&path), seed),
+        None => println!("no program was run"),
+    }
     ExitCode::from(tally.finish())
 }
 

@@ -1,34 +1,42 @@
-//! vectors FOLDER: writes the cases of the program crate `vectors`, 512 to a file in FOLDER/data, the files' names to FOLDER/args and, a line each, what the
-//! program must say of them to FOLDER/stdout. A file is named by its first case; case i is the generator's question i of seed 2026.
+//! vectors FOLDER: writes the files of the program crate `vectors` to FOLDER/data, their names to
+//! FOLDER/args and what the program must say of them to FOLDER/stdout: the worked questions, a file for
+//! each group; generated ones, 512 to a file, case i being the generator's question i of seed 2026; and
+//! wrong files, which show that the program sees what is wrong.
 //!
-//! A case is 153 bytes: the sixteen plain numbers, 8 bytes each, big-endian two's complement; 1 byte, the kind of the answer; its six numbers, 4 bytes each,
-//! big-endian, those that the kind does not use 0 (kind 65: the sides first; kind 68: the refusal first).
+//! A file is a line of words and then its cases, 25 numbers of 8 bytes each, big-endian, negative ones in
+//! two's complement: the sixteen plain numbers; 0 for a free question or 1 for one by code, and the code;
+//! the kind of the answer, and its six numbers, those that the kind does not use 0 (kind 65: the sides
+//! first; kind 68: the refusal first).
 //!
-//! vectors SEED COUNT: the generator's first COUNT questions with their answers as lines, in the form of `worked`.
+//! vectors SEED COUNT: the generator's first COUNT questions with their answers as lines: the sixteen
+//! plain numbers, ->, the kind and the six numbers of the answer.
+//!
+//! vectors worked: the worked questions with their answers as lines; a question by code as the free one
+//! that it stands for.
 
 use compare::exact::Ratio;
+use compare::examples::{BASE, TWO};
 use compare::generate;
-use compare::independent::{Accepted, Answer, Moment, Question, judge};
+use compare::independent::{Accepted, Answer, Moment, Question, Time, judge};
+use compare::worked::{self, Case};
 use std::fs;
 use std::io::{self, Write};
 use std::path::Path;
 use std::process::ExitCode;
 
-const CASE: usize = 153;
+const CASE: usize = 200;
 const SEED: u64 = 2026;
 const FILES: u64 = 8;
 const CASES_IN_FILE: u64 = 512;
 
-fn case(q: &Question, answer: &Answer) -> [u8; CASE] {
-    let mut bytes = Vec::with_capacity(CASE);
-    for n in q.numbers() {
-        bytes.extend_from_slice(&n.to_be_bytes());
-    }
-    bytes.push(answer.kind());
-    for n in answer.numbers() {
-        bytes.extend_from_slice(&n.to_be_bytes());
-    }
-    bytes.try_into().unwrap()
+fn case(case: &Case, answer: &Answer) -> [u8; CASE] {
+    let mut numbers = case.question.numbers().to_vec();
+    numbers.push(i64::from(case.code.is_some()));
+    numbers.push(i64::from(case.code.unwrap_or(0)));
+    numbers.push(i64::from(answer.kind()));
+    numbers.extend(answer.numbers().map(i64::from));
+    let bytes: Vec<u8> = numbers.into_iter().flat_map(i64::to_be_bytes).collect();
+    bytes.try_into().expect("25 numbers")
 }
 
 fn searched(shown: Option<(Ratio, Moment)>) -> bool {
@@ -49,7 +57,7 @@ fn upper_searched(q: &Question) -> bool {
 
 type Class = (&'static str, fn(&Question, &Answer) -> bool);
 
-/// What must be among the cases.
+/// What must be among the generated cases.
 const CLASSES: [Class; 15] = [
     ("refusal 1", |_, a| *a == Answer::Refused(1)),
     ("refusal 2", |_, a| *a == Answer::Refused(2)),
@@ -68,34 +76,208 @@ const CLASSES: [Class; 15] = [
     ("a number 2^63 - 1", |q, _| q.numbers().contains(&i64::MAX)),
 ];
 
-/// Writes the crate's files and gives how often each class occurs.
-fn write_crate(folder: &Path) -> io::Result<[u64; CLASSES.len()]> {
-    let (mut names, mut lines) = (String::new(), String::new());
-    let mut counts = [0; CLASSES.len()];
-    for file in 0..FILES {
-        let first = file * CASES_IN_FILE;
-        let name = format!("cases_{first:04}");
-        let mut bytes = Vec::new();
+type Counts = [u64; CLASSES.len()];
+
+/// A file's cases, each with the answer that the file gives.
+struct File {
+    name: String,
+    about: String,
+    cases: Vec<(Case, Answer)>,
+    /// Bytes after the last case.
+    rest: Vec<u8>,
+}
+
+impl File {
+    fn bytes(&self) -> Vec<u8> {
+        let mut bytes = format!("{}\n", self.about).into_bytes();
+        for (question, answer) in &self.cases {
+            bytes.extend_from_slice(&case(question, answer));
+        }
+        bytes.extend_from_slice(&self.rest);
+        bytes
+    }
+
+    /// What the program must say.
+    fn report(&self) -> String {
         let mut kinds = [0; 4];
-        for i in first..first + CASES_IN_FILE {
-            let q = generate::question(SEED, i);
-            let answer = judge(&q);
-            bytes.extend_from_slice(&case(&q, &answer));
+        let mut wrong = Vec::new();
+        for (i, (case, given)) in self.cases.iter().enumerate() {
+            let answer = case.answer();
             kinds[usize::from(answer.kind()) - 65] += 1;
-            for (count, (_, holds)) in counts.iter_mut().zip(CLASSES) {
-                *count += u64::from(holds(&q, &answer));
+            if answer != *given {
+                wrong.push(i);
             }
         }
-        fs::write(folder.join("data").join(&name), &bytes)?;
-        names += &format!("{name}\n");
-        lines += &format!(
-            "{name}: cases {CASES_IN_FILE}, differences 0; kind 65 {}, 66 {}, 67 {}, 68 {}\n",
-            kinds[0], kinds[1], kinds[2], kinds[3]
-        );
+        let (cases, differences) = (self.cases.len(), wrong.len());
+        let agreeing = wrong.first().unwrap_or(&cases);
+        let [clear, conflict, conflicts, refused] = kinds;
+        format!(
+            "{}: {}\n  cases {cases}, differences {differences} after {agreeing} that agree; \
+             kind 65 {clear}, 66 {conflict}, 67 {conflicts}, 68 {refused}; bytes left over {}\n",
+            self.name,
+            self.about,
+            self.rest.len(),
+        )
     }
+}
+
+fn worked_files() -> Vec<File> {
+    let file = |group: worked::Group| File {
+        name: group.name.into(),
+        about: group.about.into(),
+        cases: answered(group.cases),
+        rest: Vec::new(),
+    };
+    worked::groups().into_iter().map(file).collect()
+}
+
+fn answered(cases: Vec<Case>) -> Vec<(Case, Answer)> {
+    let with_answer = |case: Case| {
+        let answer = case.answer();
+        (case, answer)
+    };
+    cases.into_iter().map(with_answer).collect()
+}
+
+fn free(name: String, question: Question) -> Case {
+    Case {
+        name,
+        question,
+        code: None,
+    }
+}
+
+fn generated_files() -> Vec<File> {
+    let file = |i| {
+        let (first, end) = (i * CASES_IN_FILE, (i + 1) * CASES_IN_FILE);
+        let question = |i| free(format!("{SEED}-{i}"), generate::question(SEED, i));
+        File {
+            name: format!("generated_{first:04}"),
+            about: format!("generated questions {first} to {} of seed {SEED}", end - 1),
+            cases: answered((first..end).map(question).collect()),
+            rest: Vec::new(),
+        }
+    };
+    (0..FILES).map(file).collect()
+}
+
+/// Right answers at both ends, and between them each number of an answer wrong in turn.
+fn planted_file() -> File {
+    let conflict = Question { c: 10_000, ..BASE };
+    let clear = Question { h: -6_001, ..TWO };
+    // Conflicts at 17 1/7 and 34 2/7.
+    let conflicts = Question {
+        r: 90_000,
+        h: 80_000,
+        c: 3_500,
+        target: 1_500,
+        upper_target: 2_500,
+        ..TWO
+    };
+    let refused = Question {
+        r: 12_000_001,
+        ..BASE
+    };
+    let time = |seconds, remainder, divisor| Time {
+        seconds,
+        remainder,
+        divisor,
+    };
+    let (lower, upper) = (time(17, 1, 7), time(34, 2, 7));
+    let both = Answer::BothConflict;
+    let mut cases = vec![
+        ("right", conflict, judge(&conflict)),
+        ("right", conflicts, judge(&conflicts)),
+        ("a clear for a conflict", conflict, Answer::Clear(1)),
+        (
+            "a conflict for a clear",
+            clear,
+            Answer::Conflict(time(0, 0, 1)),
+        ),
+        ("the other side clear", clear, Answer::Clear(2)),
+        ("both sides clear", clear, Answer::Clear(3)),
+        ("another refusal", refused, Answer::Refused(2)),
+        ("a clear for a refusal", refused, Answer::Clear(1)),
+        ("one conflict for two", conflicts, Answer::Conflict(lower)),
+        ("the two exchanged", conflicts, both(upper, lower)),
+        ("lower seconds", conflicts, both(time(18, 1, 7), upper)),
+        ("lower remainder", conflicts, both(time(17, 2, 7), upper)),
+        ("lower divisor", conflicts, both(time(17, 1, 8), upper)),
+        ("upper seconds", conflicts, both(lower, time(33, 2, 7))),
+        ("upper remainder", conflicts, both(lower, time(34, 1, 7))),
+        ("upper divisor", conflicts, both(lower, time(34, 2, 6))),
+    ];
+    cases.push(("right", refused, judge(&refused)));
+    File {
+        name: "planted".into(),
+        about: "wrong answers: a clear for a conflict and for a refusal, a conflict for a clear, other sides, another refusal, one conflict for two, each number of two times"
+            .into(),
+        cases: cases
+            .into_iter()
+            .map(|(name, q, answer)| (free(name.into(), q), answer))
+            .collect(),
+        rest: Vec::new(),
+    }
+}
+
+/// A case and a cut one.
+fn cut_file() -> File {
+    let whole = free("whole".into(), BASE);
+    let rest = case(&whole, &whole.answer())[..CASE - 1].to_vec();
+    File {
+        name: "cut".into(),
+        about: "a case, and one that lacks its last byte".into(),
+        cases: answered(vec![whole]),
+        rest,
+    }
+}
+
+/// Of which there is no file.
+const MISSING: &str = "no_such_file";
+
+/// Writes the crate's files and gives how often each class occurs among the generated cases.
+fn write_crate(folder: &Path) -> io::Result<Counts> {
+    let data = folder.join("data");
+    fs::create_dir_all(&data)?;
+    remove_earlier(folder)?;
+    let generated = generated_files();
+    let counts = counts(&generated);
+    let mut files = worked_files();
+    files.extend(generated);
+    files.extend([planted_file(), cut_file()]);
+    let (mut names, mut reports) = (String::new(), String::new());
+    for file in &files {
+        fs::write(data.join(&file.name), file.bytes())?;
+        names += &format!("{}\n", file.name);
+        reports += &file.report();
+    }
+    names += &format!("{MISSING}\n");
+    reports += &format!("{MISSING}: cannot be read\n");
     fs::write(folder.join("args"), names)?;
-    fs::write(folder.join("stdout"), lines)?;
+    fs::write(folder.join("stdout"), reports)?;
     Ok(counts)
+}
+
+/// Removes the files that an earlier run has named.
+fn remove_earlier(folder: &Path) -> io::Result<()> {
+    let names = fs::read_to_string(folder.join("args")).unwrap_or_default();
+    for name in names.lines() {
+        let file = folder.join("data").join(name);
+        if file.exists() {
+            fs::remove_file(file)?;
+        }
+    }
+    Ok(())
+}
+
+fn counts(files: &[File]) -> Counts {
+    let mut counts = [0; CLASSES.len()];
+    for (case, answer) in files.iter().flat_map(|file| &file.cases) {
+        for (count, (_, holds)) in counts.iter_mut().zip(CLASSES) {
+            *count += u64::from(holds(&case.question, answer));
+        }
+    }
+    counts
 }
 
 fn write_lines(seed: u64, count: u64) -> io::Result<()> {
@@ -107,7 +289,19 @@ fn write_lines(seed: u64, count: u64) -> io::Result<()> {
     out.flush()
 }
 
-fn print_counts(counts: [u64; CLASSES.len()]) -> Result<(), String> {
+fn write_worked() -> io::Result<()> {
+    let mut out = io::BufWriter::new(io::stdout().lock());
+    for group in worked::groups() {
+        writeln!(out, "# {}: {}", group.name, group.about)?;
+        for case in group.cases {
+            let question = case.free().map_or("a code".to_string(), |q| q.to_string());
+            writeln!(out, "{} {question} -> {}", case.name, case.answer())?;
+        }
+    }
+    out.flush()
+}
+
+fn print_counts(counts: Counts) -> Result<(), String> {
     for ((class, _), count) in CLASSES.iter().zip(counts) {
         eprintln!("{class}: {count}");
     }
@@ -119,13 +313,14 @@ fn print_counts(counts: [u64; CLASSES.len()]) -> Result<(), String> {
 
 fn run(arguments: &[String]) -> Result<(), String> {
     match arguments {
+        [what] if what == "worked" => write_worked().map_err(|e| e.to_string()),
         [folder] => print_counts(write_crate(Path::new(folder)).map_err(|e| e.to_string())?),
         [seed, count] => {
             let seed = seed.parse().map_err(|_| "SEED is no number")?;
             let count = count.parse().map_err(|_| "COUNT is no number")?;
             write_lines(seed, count).map_err(|e| e.to_string())
         }
-        _ => Err("vectors FOLDER, or vectors SEED COUNT".into()),
+        _ => Err("vectors FOLDER, vectors SEED COUNT, or vectors worked".into()),
     }
 }
 

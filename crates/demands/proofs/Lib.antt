@@ -2,4 +2,3 @@ pub mod PlainAnswers
 pub mod SheetAnswers
 pub mod ProgramWrites
 pub mod Exported
-pub mod MarkedExamples

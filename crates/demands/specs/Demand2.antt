@@ -2,18 +2,19 @@
 -- advisories have Table 1's sense, target, strength and delay; catalogue and reaction table list identical codes."
 use mathlib.Core.Path.{_≡_}
 use mathlib.Core.Logic.{_↔_}
+use mathlib.Core.List.{map, List·Memᴰ}
 use mathlib.Core.Option.{some}
-use Prim.Native.Nat.{ℕ, _<_}
+use Prim.Native.Nat.{ℕ, _*_, _<_}
 use lib.IntN.{pos}
 use Rattle.advisory.specs.declared.Instruction.{Instruction}
 use Rattle.advisory.specs.declared.Reaction.{Reaction}
 use Rattle.advisory.specs.declared.Reacted.the-variants.{Row}
-use Rattle.advisory.specs.Catalogue.{Listed, Within}
+use Rattle.advisory.specs.Catalogue.{articleEntries, Named, notJudged, Listed, Within}
 use Rattle.advisory.specs.ReactionTable.{reactionTable, rowAt, rowsWith}
 use Rattle.advisory.specs.Advised.{advisedOf, instructionIn}
-use Rattle.advisory.specs.Table1.{printedAt}
-use Rattle.advisory.proofs.CodeRanges.{lists-1-to-16}
-use Rattle.advisory.proofs.TablesAgree.{advised-is-table-1, listed-has-one-row, row-is-listed}
+use Rattle.advisory.specs.Table1.{g, gOver, table1, numbered, printedAt, InNeitherTable}
+use Rattle.advisory.proofs.CodeRanges as codes
+use Rattle.advisory.proofs.TablesAgree as tables
 use Rattle.question.specs.declared.Encounter.{Encounter}
 use Rattle.question.specs.declared.Settings.{Settings}
 use Rattle.question.specs.declared.Question.{Question}
@@ -43,14 +44,25 @@ pub record CodeDemand2 (x : Encounter) (y : Settings) (code : ℕ) (answer : Ans
 -- ---- the tables
 -- "the sixteen advisories have Table 1's sense, target, strength and delay"
 pub table-1 : (code : ℕ) → code < 256 → instructionIn (advisedOf code) ≡ printedAt code
-table-1 = advised-is-table-1
+table-1 = tables.advised-is-table-1
 
 pub sixteen : (code : ℕ) → code < 256 → Listed code ↔ Within 1 16 code
-sixteen = lists-1-to-16
+sixteen = codes.lists-1-to-16
 
 -- "catalogue and reaction table list identical codes": a code is listed exactly if one row has it, and every row's code is listed
 pub identical-codes : (code : ℕ) → code < 256 → Listed code ↔ (rowsWith reactionTable code ≡ 1)
-identical-codes = listed-has-one-row
+identical-codes = tables.listed-has-one-row
 
 pub rows-are-listed : (place : ℕ) (row : Reaction) → rowAt reactionTable place ≡ Row row → Listed (row .code)
-rows-are-listed = row-is-listed
+rows-are-listed = tables.row-is-listed
+
+-- the names are Table 1's, in its order, with the codes from 1 on; g/4 and g/3 are whole; "codes 17 (COC) and 18 (MTLO) are named but not judged, and are in neither
+-- table"
+pub names : map tables.codeAndName articleEntries ≡ numbered 1 table1
+names = tables.names-are-table-1
+
+pub whole-strengths : (gOver 4 * 4 ≡ g) × (gOver 3 * 3 ≡ g)
+whole-strengths = tables.strengths-are-exact
+
+pub in-neither : (named : Named) → List·Memᴰ named notJudged → InNeitherTable (named .code)
+in-neither = tables.named-is-in-neither-table

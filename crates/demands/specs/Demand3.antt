@@ -3,13 +3,13 @@
 use mathlib.Core.Path.{_≡_}
 use mathlib.Core.Bool.{Bool, true, false}
 use mathlib.Core.Logic.{_↔_}
-use Prim.Native.Nat.{ℕ, _*_, _≤_, _<_}
+use Prim.Native.Nat.{ℕ, _*_, _/_, _≤_, _<_, _∣_}
 use lib.IntN.{pos, _+ℤ_, _-ℤ_, _*ℤ_, natAbs}
 use lib.Signed.{_≤ℤ_}
 use Rattle.instant.specs.declared.Moment.the-variants.{At}
 use Rattle.instant.specs.declared.Time.{Time}
 use Rattle.instant.specs.Order.{_÷_, _≈_}
-use Rattle.instant.specs.Lowest.{LowestTerms, SizedTime, lowest}
+use Rattle.instant.specs.Lowest.{LowestTerms, SizedTime, lowest, wholeTime}
 use Rattle.instant.proofs.LowestTerms as terms
 use Rattle.path.specs.declared.Limit.{Limit}
 use Rattle.path.specs.declared.Limit.the-variants.{Unlimited, Upto}
@@ -86,3 +86,7 @@ pub record Demand3 (two : Bool) (s : SensedQuestion) (v : Verdict) : Type 0 wher
 -- Equal rational times, and only these, are shown as one time.
 pub one-time : (n m n′ m′ : ℕ) → 0 < m → 0 < m′ → (lowest n m ≡ lowest n′ m′) ↔ (n ÷ m ≈ n′ ÷ m′)
 one-time = terms.lowest-same
+
+-- "A whole time has remainder 0 and divisor 1."
+pub whole-times : (n m : ℕ) → 0 < m → m ∣ n → lowest n m ≡ wholeTime (n / m)
+whole-times = terms.lowest-whole

@@ -1,4 +1,5 @@
 pub mod ExamplesHold
 pub mod AnswerRecords
 pub mod Demand3
+pub mod ExamplesRight
 pub mod Mirror

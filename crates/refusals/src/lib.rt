@@ -111,7 +111,10 @@ fn times_within(question: Question) -> bool
     if !limit_allowed(question) {
         return false;
     }
-    !two_sided(question) | no_delay(question)
+    if two_sided(question) {
+        return no_delay(question);
+    }
+    true
 }
 
 // Refusals 1 to 6 in rising order.

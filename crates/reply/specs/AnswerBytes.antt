@@ -9,8 +9,8 @@ use Rattle.judge.specs.Answers.{AnswerRecord, answerRecord}
 use Rattle.reply.specs.declared.Reply.{Reply}
 use Rattle.reply.specs.declared.Reply.the-variants.{Silent, Answered}
 
--- the four bytes of an unsigned number below 2³², the most significant first; of a larger one, the bytes of its remainder by 2³² (`reply`'s proofs/NumbersExact.antt: no
--- time shown has one)
+-- the four bytes of an unsigned number below 2³², the most significant first; of a larger one, the bytes of its remainder by 2³² (no time
+-- shown has one: `ShownTime .small`)
 abbrev pub bigEndian : ℕ → List ℕ
 bigEndian n = n / 16777216 % 256 ∷ n / 65536 % 256 ∷ n / 256 % 256 ∷ n % 256 ∷ []
 

@@ -1,32 +1,40 @@
-// Judges the cases in each file that an argument names. Of each it writes the number of cases, of answers that differ from those in the file, and of answers of each kind.
+// Judges the cases in each file that an argument names. Of each it writes the file's name and first line, which says in words what the cases are, and then the number of
+// cases, of answers that differ from those in the file, and of answers of each kind.
 // `cargo run --profile checked --bin vectors ../crates/vectors`, run in `compare/`, writes the files, `args` and `stdout`: the answers are the independent implementation's.
-// A file's name has the number of its first case.
-ghost use mathlib.Core.Path.{_≡_};
-ghost use Prim.Native.Nat.{_+_, _≤_, _<_};
+// The program is proved safe. That it sees a difference is shown by the file `planted`, whose answers are wrong.
+ghost use Prim.Native.Nat.{_+_, _≤_};
 ghost use lib.ListN.{length};
-ghost use Rattle.judge.specs.Answers.{answerRecord};
-ghost use Rattle.judge.specs.declared.Answer.the-variants.{Judged};
-ghost use Rattle.vectors.specs.Cases.{signed, numberAt, encounterIn, settingsIn, questionIn, recordNumbers, expectedNumbers, sameNumbers, tried};
-ghost use Rattle.vectors.specs.Reports.{oneIf, AtMost, noCases, counted, reportOn};
+ghost use Rattle.io.specs.Counts.{Counts};
+use coded::CodedQuestion;
+use coded::coded_question;
 use judge::Answer;
 use judge::judge;
 use judge::sides_number;
 use question::Encounter;
 use question::Question;
 use question::Settings;
-use record::wide;
 use record::word_at;
 use verdict::Verdict;
 
 const STANDARD_OUTPUT: i32 = 1;
 
-// Sixteen numbers of 8 bytes, the kind of the expected answer, and its six numbers of 4 bytes.
-const CASE: usize = 153;
+const LINE_END: u8 = 10;
 
-// The kind of the judge's answer, and whether that is not the expected one.
-struct Tried {
+// Numbers of 8 bytes: the sixteen of the question; 0 where they are a free question, else 1, and the code; the kind of the expected answer, and its six numbers.
+const CASE: usize = 200;
+
+// 512 cases, and a first line of 600 bytes.
+const ROOM: usize = 103000;
+
+// An answer's kind and its numbers, 0 where it has fewer than six.
+struct Numbers {
     kind: u64,
-    differs: bool,
+    first: u64,
+    second: u64,
+    third: u64,
+    fourth: u64,
+    fifth: u64,
+    sixth: u64,
 }
 
 struct Report {
@@ -41,29 +49,28 @@ struct Report {
     refused: u64,
 }
 
-// Two's complement.
-fn signed(n: u64) -> i64
-    ensures { λ r. ⌜ r ≡ signed n ⌝ }
-{
-    if n < 9223372036854775808 {
-        return n as i64;
-    }
-    -1 - (u64::MAX - n) as i64
-}
-
-// The eight bytes at a position.
-fn number_at(bytes: &[u8], at: usize) -> i64
+// The eight bytes at a position, unsigned.
+fn natural_at(bytes: &[u8], at: usize) -> u64
     requires { ⌜ at + 8 ≤ length (now bytes) ⌝ }
-    ensures { λ r. ⌜ r ≡ numberAt (now (bytes .entry)) at ⌝ }
 {
     let high = word_at(bytes, at);
     let low = word_at(bytes, at + 4);
-    signed(high * 4294967296 + low)
+    high * 4294967296 + low
+}
+
+// The eight bytes at a position, in two's complement.
+fn number_at(bytes: &[u8], at: usize) -> i64
+    requires { ⌜ at + 8 ≤ length (now bytes) ⌝ }
+{
+    let n = natural_at(bytes, at);
+    if n < 9223372036854775808 {
+        return n as i64;
+    }
+    !((u64::MAX - n) as i64)
 }
 
 fn encounter_in(case: &[u8]) -> Encounter
-    requires { ⌜ 153 ≤ length (now case) ⌝ }
-    ensures { λ r. ⌜ r ≡ encounterIn (now (case .entry)) ⌝ }
+    requires { ⌜ 200 ≤ length (now case) ⌝ }
 {
     Encounter {
         distance: number_at(case, 0),
@@ -75,8 +82,7 @@ fn encounter_in(case: &[u8]) -> Encounter
 }
 
 fn settings_in(case: &[u8]) -> Settings
-    requires { ⌜ 153 ≤ length (now case) ⌝ }
-    ensures { λ r. ⌜ r ≡ settingsIn (now (case .entry)) ⌝ }
+    requires { ⌜ 200 ≤ length (now case) ⌝ }
 {
     Settings {
         radius: number_at(case, 40),
@@ -86,8 +92,7 @@ fn settings_in(case: &[u8]) -> Settings
 }
 
 fn question_in(case: &[u8]) -> Question
-    requires { ⌜ 153 ≤ length (now case) ⌝ }
-    ensures { λ r. ⌜ r ≡ questionIn (now (case .entry)) ⌝ }
+    requires { ⌜ 200 ≤ length (now case) ⌝ }
 {
     Question {
         sides: number_at(case, 64),
@@ -101,91 +106,123 @@ fn question_in(case: &[u8]) -> Question
     }
 }
 
-// The expected kind and numbers.
-fn expected_numbers(case: &[u8]) -> [u64; 7]
-    requires { ⌜ 153 ≤ length (now case) ⌝ }
-    ensures { λ r. ⌜ r ≡ expectedNumbers (now (case .entry)) ⌝ }
+// The question, or the refusal of its code.
+fn asked(case: &[u8]) -> CodedQuestion
+    requires { ⌜ 200 ≤ length (now case) ⌝ }
 {
-    [
-        wide(case[128]),
-        word_at(case, 129),
-        word_at(case, 133),
-        word_at(case, 137),
-        word_at(case, 141),
-        word_at(case, 145),
-        word_at(case, 149),
-    ]
+    if natural_at(case, 128) == 0 {
+        return CodedQuestion::Asked(question_in(case));
+    }
+    coded_question(case[143], number_at(case, 24), number_at(case, 120))
 }
 
-fn verdict_numbers(verdict: Verdict) -> [u64; 7]
-    ensures { λ r. ⌜ r ≡ recordNumbers (answerRecord (Judged verdict)) ⌝ }
+fn answer_to(case: &[u8]) -> Answer
+    requires { ⌜ 200 ≤ length (now case) ⌝ }
 {
-    match verdict {
-        Verdict::Clear(sides) => {
-            let number = sides_number(sides) as u64;
-            [65, number, 0, 0, 0, 0, 0]
-        }
-        Verdict::Conflict(t) => [66, t.seconds, t.remainder, t.divisor, 0, 0, 0],
-        Verdict::Conflicts(t, u) => [
-            67,
-            t.seconds,
-            t.remainder,
-            t.divisor,
-            u.seconds,
-            u.remainder,
-            u.divisor,
-        ],
+    let question = asked(case);
+    match question {
+        CodedQuestion::Asked(free) => judge(encounter_in(case), settings_in(case), free),
+        CodedQuestion::Refused(number) => Answer::Refused(number),
     }
 }
 
-// An answer's kind and six numbers, 0 where it has fewer.
-fn answer_numbers(answer: Answer) -> [u64; 7]
-    ensures { λ r. ⌜ r ≡ recordNumbers (answerRecord answer) ⌝ }
+fn expected(case: &[u8]) -> Numbers
+    requires { ⌜ 200 ≤ length (now case) ⌝ }
 {
+    Numbers {
+        kind: natural_at(case, 144),
+        first: natural_at(case, 152),
+        second: natural_at(case, 160),
+        third: natural_at(case, 168),
+        fourth: natural_at(case, 176),
+        fifth: natural_at(case, 184),
+        sixth: natural_at(case, 192),
+    }
+}
+
+fn one_number(kind: u64, number: u8) -> Numbers {
+    Numbers {
+        kind: kind,
+        first: number as u64,
+        second: 0,
+        third: 0,
+        fourth: 0,
+        fifth: 0,
+        sixth: 0,
+    }
+}
+
+fn verdict_numbers(verdict: Verdict) -> Numbers {
+    match verdict {
+        Verdict::Clear(sides) => one_number(65, sides_number(sides)),
+        Verdict::Conflict(t) => Numbers {
+            kind: 66,
+            first: t.seconds,
+            second: t.remainder,
+            third: t.divisor,
+            fourth: 0,
+            fifth: 0,
+            sixth: 0,
+        },
+        Verdict::Conflicts(t, u) => Numbers {
+            kind: 67,
+            first: t.seconds,
+            second: t.remainder,
+            third: t.divisor,
+            fourth: u.seconds,
+            fifth: u.remainder,
+            sixth: u.divisor,
+        },
+    }
+}
+
+fn answer_numbers(answer: Answer) -> Numbers {
     match answer {
         Answer::Judged(verdict) => verdict_numbers(verdict),
-        Answer::Refused(number) => [68, number as u64, 0, 0, 0, 0, 0],
+        Answer::Refused(number) => one_number(68, number),
     }
 }
 
-// The proof does not get an array's length from a reference to it, so the contract asks for it.
-fn same_numbers(a: &[u64; 7], b: &[u64; 7]) -> bool
-    requires { ⌜ (length (now a) ≡ 7) × (length (now b) ≡ 7) ⌝ }
-    ensures { λ r. ⌜ r ≡ sameNumbers (now (a .entry)) (now (b .entry)) ⌝ }
-{
-    let mut i: usize = 0;
-    while i < 7 {
-        if a[i] != b[i] {
-            return false;
-        }
-        i = i + 1;
+fn differ(a: Numbers, b: Numbers) -> bool {
+    (a.kind != b.kind)
+        | (a.first != b.first)
+        | (a.second != b.second)
+        | (a.third != b.third)
+        | (a.fourth != b.fourth)
+        | (a.fifth != b.fifth)
+        | (a.sixth != b.sixth)
+}
+
+// One more if it is so. A file has far fewer cases than would make a count start again.
+fn more_if(n: u64, so: bool) -> u64 {
+    if so {
+        return std::num::wrapping_add_u64(n, 1);
     }
-    true
+    n
 }
 
-// Judges the case at the start of the bytes.
-fn try_case(bytes: &[u8]) -> Tried
-    requires { ⌜ 153 ≤ length (now bytes) ⌝ }
-    ensures { λ r. ⌜ r ≡ tried (now (bytes .entry)) ⌝ }
+// Judges the case at the start of the bytes, and counts it.
+fn counted(report: Report, case: &[u8]) -> Report
+    requires { ⌜ 200 ≤ length (now case) ⌝ }
 {
-    let found = answer_numbers(judge(encounter_in(bytes), settings_in(bytes), question_in(bytes)));
-    let expected = expected_numbers(bytes);
-    Tried {
-        kind: found[0],
-        differs: !same_numbers(&found, &expected),
-    }
-}
-
-fn one_if(b: bool) -> u64
-    ensures { λ r. ⌜ (r ≡ oneIf b) × (r ≤ 1) ⌝ }
-{
-    if b { 1 } else { 0 }
-}
-
-fn no_cases() -> Report
-    ensures { λ r. ⌜ r ≡ noCases ⌝ }
-{
+    let found = answer_numbers(answer_to(case));
+    let kind = found.kind;
+    let differences = more_if(report.differences, differ(found, expected(case)));
     Report {
+        cases: more_if(report.cases, true),
+        differences: differences,
+        agreeing: more_if(report.agreeing, differences == 0),
+        clear: more_if(report.clear, kind == 65),
+        conflict: more_if(report.conflict, kind == 66),
+        conflicts: more_if(report.conflicts, kind == 67),
+        refused: more_if(report.refused, kind == 68),
+    }
+}
+
+// Judges all whole cases.
+fn report_on(bytes: &[u8]) -> Report {
+    let cases = bytes.len() / CASE;
+    let mut report = Report {
         cases: 0,
         differences: 0,
         agreeing: 0,
@@ -193,36 +230,11 @@ fn no_cases() -> Report
         conflict: 0,
         conflicts: 0,
         refused: 0,
-    }
-}
-
-fn counted(report: Report, tried: Tried) -> Report
-    requires { ⌜ AtMost 9223372036854775807 report ⌝ }
-    ensures { λ r. ⌜ r ≡ counted report tried ⌝ }
-{
-    let kind = tried.kind;
-    let differences = report.differences + one_if(tried.differs);
-    Report {
-        cases: report.cases + 1,
-        differences: differences,
-        agreeing: report.agreeing + one_if(differences == 0),
-        clear: report.clear + one_if(kind == 65),
-        conflict: report.conflict + one_if(kind == 66),
-        conflicts: report.conflicts + one_if(kind == 67),
-        refused: report.refused + one_if(kind == 68),
-    }
-}
-
-// Judges all whole cases.
-fn report_on(bytes: &[u8]) -> Report
-    ensures { λ r. ⌜ r ≡ reportOn (now (bytes .entry)) ⌝ }
-{
-    let cases = bytes.len() / CASE;
-    let mut report = no_cases();
+    };
     let mut i: usize = 0;
     while i < cases {
         let at = i * CASE;
-        report = counted(report, try_case(&bytes[at..]));
+        report = counted(report, &bytes[at..]);
         i = i + 1;
     }
     report
@@ -238,39 +250,56 @@ fn write_number(text: &[u8], n: u64) {
 }
 
 fn write_report(report: Report) {
-    write_number(b": cases ", report.cases);
+    write_number(b"  cases ", report.cases);
     write_number(b", differences ", report.differences);
-    if 0 < report.differences {
-        write_number(b", the first in case ", report.agreeing);
-    }
-    write_number(b"; kind 65 ", report.clear);
+    write_number(b" after ", report.agreeing);
+    write_number(b" that agree; kind 65 ", report.clear);
     write_number(b", 66 ", report.conflict);
     write_number(b", 67 ", report.conflicts);
     write_number(b", 68 ", report.refused);
 }
 
-// A file of more than 512 cases leaves a rest too: its next byte.
-fn report_file(file: i32) {
-    let mut bytes = [0u8; 78337];
-    let length = io::read_full(file, &mut bytes);
-    write_report(report_on(&bytes[..length]));
-    let rest = length % CASE;
-    if 0 < rest {
-        write_number(b"; bytes left over ", rest as u64);
+// The first line's length, with its end.
+fn first_line(bytes: &[u8]) -> usize
+    ensures { λ r. ⌜ Counts r (now (bytes .entry)) ⌝ }
+{
+    let mut i: usize = 0;
+    while i < bytes.len() {
+        if bytes[i] == LINE_END {
+            return i + 1;
+        }
+        i = i + 1;
     }
+    i
+}
+
+// Bytes that are left over are of a case that was cut, or of a file longer than the room.
+fn report_bytes(bytes: &[u8]) {
+    let start = first_line(bytes);
+    write(&bytes[..start]);
+    let cases = &bytes[start..];
+    write_report(report_on(cases));
+    write_number(b"; bytes left over ", (cases.len() % CASE) as u64);
+    write(b"\n");
+}
+
+fn report_file(file: i32) {
+    let mut room = [0u8; ROOM];
+    let length = io::read_full(file, &mut room);
+    report_bytes(&room[..length]);
 }
 
 fn report_argument(k: usize) {
     let mut name = io::buffer();
     let length = os::arg(k, &mut name);
+    write(&name[..length]);
     let file = os::open_read(&name[..length]);
     if file < 0 {
-        os::fail(&name[..length]);
+        write(b": cannot be read\n");
         return;
     }
-    write(&name[..length]);
+    write(b": ");
     report_file(file);
-    write(b"\n");
     libc::close(file);
 }
 

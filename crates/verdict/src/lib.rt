@@ -51,7 +51,10 @@ fn two_sided_verdict(lower: Moment, upper: Moment) -> Verdict
 {
     match lower {
         Moment::At(t) => match upper {
-            Moment::At(u) => Verdict::Conflicts(lowest_terms(t.n, t.m), lowest_terms(u.n, u.m)),
+            Moment::At(u) => {
+                let second = lowest_terms(u.n, u.m);
+                Verdict::Conflicts(lowest_terms(t.n, t.m), second)
+            }
             Moment::Never => Verdict::Clear(ClearSides::Upper),
         },
         Moment::Never => match upper {

@@ -32,9 +32,9 @@ enum-told-4 c = search needs
 
 returns : tie.Need-returns
 returns c =
-    let l = c .before in
-    let u = l .before .before in
-    ap₂ Conflicts (l .lowest-terms .ensures) (c .lowest-terms2 .ensures) ∙ sym (ap₂ twoSidedVerdict (u .before .before .before .lower .given .1) (u .upper .given .1))
+    let s = c .before in
+    let u = s .before .before in
+    ap₂ Conflicts (c .lowest-terms2 .ensures) (s .lowest-terms .ensures) ∙ sym (ap₂ twoSidedVerdict (u .before .before .before .lower .given .1) (u .upper .given .1))
 
 returns-2 : tie.Need-returns-2
 returns-2 c = sym (ap₂ twoSidedVerdict (c .before .before .before .lower .given .1) (c .enum-told .given .1))

@@ -1,3 +1,0 @@
-pub mod SameNumbers
-pub mod Counting
-pub mod Agreement
