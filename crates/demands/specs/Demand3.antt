@@ -9,7 +9,8 @@ use lib.Signed.{_≤ℤ_}
 use Rattle.instant.specs.declared.Moment.the-variants.{At}
 use Rattle.instant.specs.declared.Time.{Time}
 use Rattle.instant.specs.Order.{_÷_, _≈_}
-use Rattle.instant.specs.Lowest.{LowestTerms, SizedTime, lowest, wholeTime}
+use Rattle.instant.specs.LowestTerms.{LowestTerms, SizedTime, wholeTime}
+use Rattle.instant.specs.Lowest.{lowest}
 use Rattle.instant.proofs.LowestTerms as terms
 use Rattle.path.specs.declared.Limit.{Limit}
 use Rattle.path.specs.declared.Limit.the-variants.{Unlimited, Upto}
@@ -84,9 +85,9 @@ pub record Demand3 (two : Bool) (s : SensedQuestion) (v : Verdict) : Type 0 wher
   pub said : Said two s v
 
 -- Equal rational times, and only these, are shown as one time.
-pub one-time : (n m n′ m′ : ℕ) → 0 < m → 0 < m′ → (lowest n m ≡ lowest n′ m′) ↔ (n ÷ m ≈ n′ ÷ m′)
-one-time = terms.lowest-same
+pub one-time : (n m n′ m′ : ℕ) → 0 < m → 0 < m′ → (t t′ : Time) → LowestTerms n m t → LowestTerms n′ m′ t′ → (t ≡ t′) ↔ (n ÷ m ≈ n′ ÷ m′)
+one-time = terms.terms-same
 
 -- "a whole time has remainder 0 and divisor 1"
-pub whole-times : (n m : ℕ) → 0 < m → m ∣ n → lowest n m ≡ wholeTime (n / m)
-whole-times = terms.lowest-whole
+pub whole-times : (n m : ℕ) → 0 < m → m ∣ n → (t : Time) → LowestTerms n m t → t ≡ wholeTime (n / m)
+whole-times = terms.terms-whole

@@ -3,7 +3,7 @@ use mathlib.Core.Bool.{Bool, true, false}
 use Rattle.instant.specs.declared.Instant.{Instant}
 use Rattle.instant.specs.declared.Moment.the-variants.{At}
 use Rattle.instant.specs.declared.Time.{Time}
-use Rattle.instant.specs.Lowest.{LowestTerms, SizedTime}
+use Rattle.instant.specs.LowestTerms.{LowestTerms, SizedTime}
 use Rattle.path.specs.declared.SensedQuestion.{SensedQuestion}
 use Rattle.path.specs.declared.Side.{Side}
 use Rattle.path.specs.declared.Side.the-variants.{Lower, Upper}
