@@ -87,12 +87,14 @@ module _ (sheet : List ℕ) (earlier : List Record) (given : Record) (later : Li
   free-answered : (z : Question) → given ≡ Record.Free z → (r : Answer) × FreeAnswered (sheetAnswer sheet) earlier given later z r
   unfolding replyTo
   free-answered z g =
-      let r = freeAnswer (st .encounter) (st .settings) z in
-      (r, record {
-        placed = placed r (reply-of g);
-        order = free-order st (stored-within earlier) z;
-        right = free-right (st .encounter) z;
-      })
+      let r = freeAnswer (st .encounter) (st .settings) z in (
+        r,
+        record {
+          placed = placed r (reply-of g);
+          order = free-order st (stored-within earlier) z;
+          right = free-right (st .encounter) z;
+        },
+      )
 
   module _ (code : ℕ) (limit : ℤ) where
     abbrev Coded : LastEncounter → Answer
@@ -123,13 +125,15 @@ module _ (sheet : List ℕ) (earlier : List Record) (given : Record) (later : Li
   coded-answered : (code : ℕ) (limit : ℤ) → code < 256 → given ≡ Record.Coded code limit → (r : Answer) × CodedAnswered (sheetAnswer sheet) earlier given later code limit r
   unfolding replyTo
   coded-answered code limit byte g =
-      let r = codedAnswer (st .encounter) (st .settings) code limit in
-      (r, record {
-        placed = placed r (reply-of g);
-        order = coded-order st (stored-within earlier) code limit byte;
-        right = coded-right code limit;
-        region = coded-region code limit;
-      })
+      let r = codedAnswer (st .encounter) (st .settings) code limit in (
+        r,
+        record {
+          placed = placed r (reply-of g);
+          order = coded-order st (stored-within earlier) code limit byte;
+          right = coded-right code limit;
+          region = coded-region code limit;
+        },
+      )
 
 pub each : (sheet : List ℕ) → EachRecord sheet (sheetAnswer sheet)
 each sheet earlier given later here = record {
