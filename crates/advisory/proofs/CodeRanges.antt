@@ -7,9 +7,10 @@ use native.Mathlib.Omega.{arith}
 use borrow.Author.Tests.{le-leb, lt-leb}
 use lib.Dec.{T, leb, leb→le, le→leb, nleb→lt}
 use mir.Facts.{and-yes, yes-and, and-no}
-use Rattle.advisory.specs.Catalogue.{articleEntries, notJudged, among, articleCodes, notJudgedCodes, catalogueOf, Listed, Within}
+use Rattle.advisory.specs.Catalogue.{articleEntries, notJudged, among, articleCodes, notJudgedCodes, catalogueOf, Listed, CodeWithin}
 use Rattle.advisory.specs.ReactionTable.{reactionTable}
-use Rattle.advisory.specs.Advised.{advisedOf, Standing}
+use Rattle.advisory.specs.Advised.{advisedOf}
+use Rattle.advisory.specs.inner.Codes.{Standing}
 use Rattle.advisory.specs.declared.Advice.{Advice}
 use Rattle.advisory.specs.declared.Listing.{Listing}
 use Rattle.advisory.specs.declared.Advised.{Advised}
@@ -18,7 +19,7 @@ use Rattle.advisory.proofs.EveryBelow.{below, same-below, iff-below}
 abbrev pub within : ℕ → ℕ → ℕ → Bool
 within low high code = leb low code && leb code high
 
-pub within-iff : (low high code : ℕ) → T (within low high code) ↔ Within low high code
+pub within-iff : (low high code : ℕ) → T (within low high code) ↔ CodeWithin low high code
 within-iff low high code = (
   λ t. let both = and-yes (leb low code) (leb code high) t in (leb→le low code (both .0), leb→le code high (both .1)),
   λ w. yes-and (leb low code) (leb code high) (le→leb low code (w .0)) (le→leb code high (w .1)),
@@ -52,7 +53,7 @@ article-iff l = (λ p. subst⁻¹ (λ (x : Listing). T (isArticle x)) (p .1) tt,
     found Listing.Unknown t = absurd t
 
 -- The catalogue lists exactly the codes 1 to 16.
-pub lists-1-to-16 : (code : ℕ) → code < 256 → Listed code ↔ Within 1 16 code
+pub lists-1-to-16 : (code : ℕ) → code < 256 → Listed code ↔ CodeWithin 1 16 code
 unfolding catalogueOf articleEntries notJudged
 lists-1-to-16 code h =
     Iff·trans (article-iff (catalogueOf code))

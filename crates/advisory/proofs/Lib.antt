@@ -4,4 +4,3 @@ pub mod CodeRanges
 pub mod SameInstruction
 pub mod TablesAgree
 pub mod Limits
-pub mod Sensed

@@ -9,7 +9,8 @@ use mir.Facts.{and-yes}
 use Rattle.limits.specs.Limits.{maxSpeed, minStrength, maxStrength, maxDelay}
 use Rattle.advisory.specs.Catalogue.{articleEntries, notJudged, catalogueOf, rateOf}
 use Rattle.advisory.specs.ReactionTable.{reactionTable}
-use Rattle.advisory.specs.Advised.{advisedOf, InLimits}
+use Rattle.advisory.specs.Advised.{advisedOf}
+use Rattle.advisory.specs.inner.Codes.{InLimits}
 use Rattle.advisory.specs.declared.Target.{Target}
 use Rattle.advisory.specs.declared.Target.the-variants.{Rate, Current}
 use Rattle.advisory.specs.declared.Instruction.{Instruction}

@@ -1,10 +1,7 @@
 -- Catalogue and reaction table together: what a code advises.
 use mathlib.Core.Option.{Option, none, some}
-use Prim.Native.Nat.{ℕ, _≤_}
-use lib.IntN.{ℤ, pos, negℤ}
-use lib.Signed.{_≤ℤ_}
-use Rattle.limits.specs.Limits.{maxSpeed, minStrength, maxStrength, maxDelay}
-use Rattle.advisory.specs.Catalogue.{catalogueOf, rateOf, Within, Outside}
+use Prim.Native.Nat.{ℕ}
+use Rattle.advisory.specs.Catalogue.{catalogueOf}
 use Rattle.advisory.specs.ReactionTable.{reactionTable, rowOf}
 use Rattle.advisory.specs.declared.Advice.{Advice}
 use Rattle.advisory.specs.declared.Listing.{Listing}
@@ -35,17 +32,3 @@ abbrev pub instructionIn : Advised → Option Instruction
 instructionIn (Advised.Judged i) = some i
 instructionIn Advised.NotJudged = none
 instructionIn Advised.Unknown = none
-
--- The codes of each answer: "8 code outside 1 to 18; 9 code 17 or 18", and the others are judged.
-abbrev pub Standing : ℕ → Advised → Type 0
-Standing code (Advised.Judged i) = Within 1 16 code
-Standing code Advised.NotJudged = Within 17 18 code
-Standing code Advised.Unknown = Outside 1 18 code
-
--- Document 01's limits on strength, delay and target, the ownship's speed v being in its own.
-pub record InLimits (i : Instruction) : Type 0 where
-  pub strength-from : minStrength ≤ i .strength
-  pub strength-to : i .strength ≤ maxStrength
-  pub delay-to : i .delay ≤ maxDelay
-  pub target-from : (v : ℤ) → negℤ (pos maxSpeed) ≤ℤ v → negℤ (pos maxSpeed) ≤ℤ rateOf (i .target) v
-  pub target-to : (v : ℤ) → v ≤ℤ pos maxSpeed → rateOf (i .target) v ≤ℤ pos maxSpeed

@@ -1,10 +1,9 @@
 -- The catalogue of document 01: "The catalogue gives the sense and target of each code."
 use mathlib.Core.Path.{_≡_}
-use mathlib.Core.Logic.{_⊎_}
 use mathlib.Core.Bool.{Bool, false, cond, _||_}
 use mathlib.Core.List.{List, [], _∷_, map}
 use Prim.Native.String.{String}
-use Prim.Native.Nat.{ℕ, _%_, _≤_, _<_}
+use Prim.Native.Nat.{ℕ, _%_, _≤_}
 use lib.Dec.{eqb}
 use lib.IntN.{ℤ, pos, negℤ}
 use Rattle.advisory.specs.declared.Sense.{Sense}
@@ -73,8 +72,8 @@ unfoldable pub notJudged : List Named
 notJudged = named 17 "COC" ∷ named 18 "MTLO" ∷ []
 
 -- "Odd codes descend, even codes climb."
-abbrev pub senseOf : ℕ → Sense
-senseOf code = cond (eqb (code % 2) 0) Climb Descend
+abbrev pub senseOfCode : ℕ → Sense
+senseOfCode code = cond (eqb (code % 2) 0) Climb Descend
 
 -- The target of the first entry with this code; without one the current speed stands in, and no answer uses it.
 abbrev pub targetIn : List Entry → ℕ → Target
@@ -100,16 +99,13 @@ notJudgedCodes = map (λ (n : Named). n .code) notJudged
 -- What the catalogue says of a code: its sense and target, named but not judged, or unknown.
 unfoldable pub catalogueOf : ℕ → Listing
 catalogueOf code =
-    cond (among code articleCodes) (Article (record { sense = senseOf code; target = targetOf code }))
+    cond (among code articleCodes) (Article (record { sense = senseOfCode code; target = targetOf code }))
     (cond (among code notJudgedCodes) NotJudged Unknown)
 
 -- The catalogue lists a code: it gives it a sense and a target.
 abbrev pub Listed : ℕ → Type 0
 Listed code = (advice : Advice) × (catalogueOf code ≡ Article advice)
 
--- A code of a range, as "1 to 16", and a code outside one.
-abbrev pub Within : ℕ → ℕ → ℕ → Type 0
-Within low high code = (low ≤ code) × (code ≤ high)
-
-abbrev pub Outside : ℕ → ℕ → ℕ → Type 0
-Outside low high code = (code < low) ⊎ (high < code)
+-- A code of a range, as 1 to 16.
+abbrev pub CodeWithin : ℕ → ℕ → ℕ → Type 0
+CodeWithin low high code = (low ≤ code) × (code ≤ high)

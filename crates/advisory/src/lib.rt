@@ -1,6 +1,6 @@
 // The article's advisories by code: the catalogue gives sense and target, the reaction table strength and delay.
 ghost use mathlib.Core.Path.{_≡_};
-ghost use Rattle.advisory.specs.Catalogue.{senseOf, targetOf, catalogueOf};
+ghost use Rattle.advisory.specs.Catalogue.{senseOfCode, targetOf, catalogueOf};
 ghost use Rattle.advisory.specs.ReactionTable.{reactionTable, rowAt, rowOf};
 ghost use Rattle.advisory.specs.Advised.{advisedOf};
 
@@ -60,8 +60,8 @@ pub enum Advised {
 }
 
 // Odd codes descend, even codes climb.
-fn sense_of(code: u8) -> Sense
-    ensures { λ r. ⌜ r ≡ senseOf code ⌝ }
+fn sense_of_code(code: u8) -> Sense
+    ensures { λ r. ⌜ r ≡ senseOfCode code ⌝ }
 {
     if code % 2 == 0 {
         Sense::Climb
@@ -101,7 +101,7 @@ pub fn catalogue(code: u8) -> Listing
 {
     match code {
         1..=16 => {
-            let sense = sense_of(code);
+            let sense = sense_of_code(code);
             let target = target_of(code);
             Listing::Article(Advice { sense, target })
         }

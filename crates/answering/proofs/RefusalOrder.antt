@@ -15,7 +15,8 @@ use Rattle.advisory.specs.declared.Instruction.{Instruction}
 use Rattle.advisory.specs.declared.Sense.{Sense}
 use Rattle.advisory.specs.declared.Sense.the-variants.{Climb, Descend}
 use Rattle.advisory.specs.Catalogue.{rateOf}
-use Rattle.advisory.specs.Advised.{advisedOf, Standing, InLimits}
+use Rattle.advisory.specs.Advised.{advisedOf}
+use Rattle.advisory.specs.inner.Codes.{Standing, InLimits}
 use Rattle.advisory.proofs.CodeRanges.{standing}
 use Rattle.advisory.proofs.Limits.{in-limits}
 use Rattle.question.specs.declared.Encounter.{Encounter}
@@ -35,7 +36,7 @@ use Rattle.question.proofs.WithinLimits.{Between, between}
 use Rattle.answering.specs.declared.LastEncounter.{LastEncounter}
 use Rattle.answering.specs.declared.LastEncounter.the-variants.{Absent, Present}
 use Rattle.answering.specs.declared.State.{State}
-use Rattle.answering.specs.States.{EncounterWithin, Within}
+use Rattle.answering.specs.States.{StoredEncounterWithin, StoredWithin}
 use Rattle.answering.specs.Replies.{askedAnswer, codedAnswer, freeAnswer, codeFrom, codedChecks, freeChecks, refusalIn}
 
 -- ---- tests that hold
@@ -118,20 +119,20 @@ module _ (x : Encounter) (y : Settings) (met : T (encounterWithin x)) (puck : T 
       sym (picks-no (codeFrom 1 18 code) _ _ (⊎-elim (λ low. fails-left (leb code 18) (lt-leb 1 code low)) (λ high. fails-right (leb 1 code) (lt-leb code 18 high)) stands))
 
 -- ---- the theorems
-free-from : (m : LastEncounter) (y : Settings) → EncounterWithin m → T (puckWithin y) → T (delayAccelerationWithin y) → (z : Question)
+free-from : (m : LastEncounter) (y : Settings) → StoredEncounterWithin m → T (puckWithin y) → T (delayAccelerationWithin y) → (z : Question)
     → refusalIn (freeAnswer m y z) ≡ firstRefusal (freeChecks m z)
 unfolding freeAnswer
 free-from Absent y met puck acceleration z = refl
 free-from (Present x) y met puck acceleration z = plain-order x y met puck acceleration z
 
-coded-from : (m : LastEncounter) (y : Settings) → EncounterWithin m → T (puckWithin y) → T (delayAccelerationWithin y) → (code : ℕ) (limit : ℤ) → code < 256
+coded-from : (m : LastEncounter) (y : Settings) → StoredEncounterWithin m → T (puckWithin y) → T (delayAccelerationWithin y) → (code : ℕ) (limit : ℤ) → code < 256
     → refusalIn (codedAnswer m y code limit) ≡ firstRefusal (codedChecks m code limit)
 unfolding codedAnswer codedQuestion
 coded-from Absent y met puck acceleration code limit h = refl
 coded-from (Present x) y met puck acceleration code limit h =
     asked-order x y met puck acceleration code limit (advisedOf code) (in-limits code h) (standing code h)
 
-module _ (st : State) (w : Within st) where
+module _ (st : State) (w : StoredWithin st) where
   -- "Free: 7, 4, 5, 6."
   pub free-order : (z : Question) → refusalIn (freeAnswer (st .encounter) (st .settings) z) ≡ firstRefusal (freeChecks (st .encounter) z)
   free-order z = free-from (st .encounter) (st .settings) (w .encounter) (w .puck) (w .acceleration) z

@@ -12,43 +12,43 @@ use Rattle.record.specs.declared.Record.{Record}
 use Rattle.record.specs.declared.Record.the-variants.{Encounter, Puck, DelayAcceleration, Coded, Free, Unknown}
 use Rattle.reply.specs.declared.Reply.the-variants.{Answered}
 use Rattle.answering.specs.declared.State.{State}
-use Rattle.answering.specs.States.{startingState, withPuck, withDelayAcceleration, withSettings, withEncounter, stateAfter, stateAfterAll, Within}
+use Rattle.answering.specs.States.{startingState, withPuck, withDelayAcceleration, withSettings, withEncounter, stateAfter, stateAfterAll, StoredWithin}
 use Rattle.answering.specs.Replies.{settingsReply, replyTo}
 
 passed : {b : Bool} → b ≡ true → T b
 passed e = subst T (sym e) tt
 
-pub starting-within : Within startingState
+pub starting-within : StoredWithin startingState
 starting-within = record { encounter = tt; puck = tt; acceleration = tt }
 
-pub record-keeps-within : (st : State) (r : Record) → Within st → Within (stateAfter st r)
+pub record-keeps-within : (st : State) (r : Record) → StoredWithin st → StoredWithin (stateAfter st r)
 unfolding stateAfter
 record-keeps-within st (Encounter x) w = go (encounterWithin x) refl
   where
-    go : (b : Bool) → encounterWithin x ≡ b → Within (cond b (withEncounter st x) st)
+    go : (b : Bool) → encounterWithin x ≡ b → StoredWithin (cond b (withEncounter st x) st)
     go true e = record { encounter = passed e; puck = w .puck; acceleration = w .acceleration }
     go false e = w
 record-keeps-within st (Puck p k) w = go (puckWithin (withPuck (st .settings) p k)) refl
   where
-    go : (b : Bool) → puckWithin (withPuck (st .settings) p k) ≡ b → Within (cond b (withSettings st (withPuck (st .settings) p k)) st)
+    go : (b : Bool) → puckWithin (withPuck (st .settings) p k) ≡ b → StoredWithin (cond b (withSettings st (withPuck (st .settings) p k)) st)
     go true e = record { encounter = w .encounter; puck = passed e; acceleration = w .acceleration }
     go false e = w
 record-keeps-within st (DelayAcceleration a) w = go (delayAccelerationWithin (withDelayAcceleration (st .settings) a)) refl
   where
-    go : (b : Bool) → delayAccelerationWithin (withDelayAcceleration (st .settings) a) ≡ b → Within (cond b (withSettings st (withDelayAcceleration (st .settings) a)) st)
+    go : (b : Bool) → delayAccelerationWithin (withDelayAcceleration (st .settings) a) ≡ b → StoredWithin (cond b (withSettings st (withDelayAcceleration (st .settings) a)) st)
     go true e = record { encounter = w .encounter; puck = w .puck; acceleration = passed e }
     go false e = w
 record-keeps-within st (Coded code limit) w = w
 record-keeps-within st (Free z) w = w
 record-keeps-within st Unknown w = w
 
-pub records-keep-within : (st : State) (rs : List Record) → Within st → Within (stateAfterAll st rs)
+pub records-keep-within : (st : State) (rs : List Record) → StoredWithin st → StoredWithin (stateAfterAll st rs)
 unfolding stateAfterAll
 records-keep-within st [] w = w
 records-keep-within st (r ∷ rs) w = records-keep-within (stateAfter st r) rs (record-keeps-within st r w)
 
 -- whatever records a sheet has had
-pub stored-within : (rs : List Record) → Within (stateAfterAll startingState rs)
+pub stored-within : (rs : List Record) → StoredWithin (stateAfterAll startingState rs)
 stored-within rs = records-keep-within startingState rs starting-within
 
 -- ---- "one record of kind 68, settings and encounter unchanged"

@@ -47,11 +47,11 @@ stateAfterAll state [] = state
 stateAfterAll state (first ∷ rest) = stateAfterAll (stateAfter state first) rest
 
 -- Stored values are within their limits (question, specs/Refusals.antt).
-abbrev pub EncounterWithin : LastEncounter → Type 0
-EncounterWithin Absent = Unit {0}
-EncounterWithin (Present x) = T (encounterWithin x)
+abbrev pub StoredEncounterWithin : LastEncounter → Type 0
+StoredEncounterWithin Absent = Unit {0}
+StoredEncounterWithin (Present x) = T (encounterWithin x)
 
-pub record Within (state : State) : Type 0 where
-  pub encounter : EncounterWithin (state .encounter)
+pub record StoredWithin (state : State) : Type 0 where
+  pub encounter : StoredEncounterWithin (state .encounter)
   pub puck : T (puckWithin (state .settings))
   pub acceleration : T (delayAccelerationWithin (state .settings))

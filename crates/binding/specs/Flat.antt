@@ -12,7 +12,7 @@ use Rattle.sheet.specs.declared.Outcome.the-variants.{Accepted, Refused}
 use Rattle.binding.specs.declared.JudgeResult.{JudgeResult}
 use Rattle.binding.specs.declared.SheetResult.{SheetResult}
 
--- "65 clear: 1 lower side clear, 2 upper, 3 both"; "68: the refusal number"
+-- The number is, in kind 65, "1 lower side clear, 2 upper, 3 both", and in kind 68 "the refusal number".
 abbrev pub withTimes : ℕ → ℕ → Time → Time → JudgeResult
 withTimes kind number lower upper = record {
   kind = kind;

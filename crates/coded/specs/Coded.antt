@@ -1,4 +1,4 @@
--- A question by code: "coded question: code, limit; one-sided, delay from the table". Codes 9 and 10 take the ownship's v as target.
+-- A question by code: "coded question, 3: code (1), limit (2); one-sided, delay from the table". Codes 9 and 10 take the ownship's v as target.
 use Prim.Native.Nat.{ℕ}
 use lib.IntN.{ℤ, pos}
 use Rattle.advisory.specs.declared.Sense.{Sense}
@@ -10,7 +10,7 @@ use Rattle.advisory.specs.Advised.{advisedOf}
 use Rattle.question.specs.declared.Question.{Question}
 use Rattle.coded.specs.declared.CodedQuestion.{CodedQuestion}
 
--- "Sense 0 descend or 1 climb"
+-- "sense 0 descend or 1 climb"
 abbrev pub senseNumber : Sense → ℤ
 senseNumber Descend = pos 0
 senseNumber Climb = pos 1

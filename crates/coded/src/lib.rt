@@ -1,7 +1,7 @@
 // A question by code as a free one.
 ghost use mathlib.Core.Path.{_≡_};
 ghost use Rattle.advisory.specs.Catalogue.{rateOf};
-ghost use Rattle.advisory.specs.Advised.{InLimits};
+ghost use Rattle.advisory.specs.inner.Codes.{InLimits};
 ghost use Rattle.coded.specs.Coded.{senseNumber, instructed, codedQuestion};
 use advisory::Advised;
 use advisory::Instruction;

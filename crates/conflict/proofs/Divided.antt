@@ -14,11 +14,12 @@ use Rattle.path.specs.declared.Side.{Side}
 use Rattle.path.specs.declared.Side.the-variants.{Lower, Upper}
 use Rattle.path.specs.Letters.{k, wh, u, q, a, d, e, b}
 use Rattle.path.specs.Paths.{adviceGain, delayHeight, u-d, lowerPath, upperPath}
-use Rattle.path.specs.Conflict.{lowerEdge, upperEdge, notBeyond}
+use Rattle.path.specs.Conflict.{lowerEdge, upperEdge}
+use Rattle.path.specs.inner.Tests.{notBeyond}
 use Rattle.path.proofs.AdviceRule.{gain-zero, gain-arc, gain-straight}
 use Rattle.path.proofs.Continued.{continued-before, continued-after}
 use Rattle.conflict.specs.declared.AdviceRule.{AdviceRule}
-use Rattle.conflict.specs.Divided.{heightNotBeyond, delayNotBeyond, ruleOf, missing, arcNotBeyond, straightNotBeyond, ruleNotBeyond}
+use Rattle.conflict.specs.inner.Divided.{heightNotBeyond, delayNotBeyond, ruleOf, missing, arcNotBeyond, straightNotBeyond, ruleNotBeyond}
 
 -- y - x is i times y′ - x′, with i positive: the two orders are one
 module _ (x y x′ y′ : ℤ) (i : ℕ) (p : 0 < i) (f : y -ℤ x ≡ pos i *ℤ (y′ -ℤ x′)) where

@@ -19,11 +19,11 @@ use Rattle.path.specs.declared.Side.{Side}
 use Rattle.path.specs.declared.Side.the-variants.{Lower, Upper}
 use Rattle.path.specs.Letters.{k, wh, u, q, d, e, upper-q}
 use Rattle.path.specs.Paths.{delayHeight, u-d, upperTarget}
-use Rattle.path.specs.Sizes.{maxSpeedDifference, maxSpeedAfterDelay, Sizes, Sized, farthest, InReach}
+use Rattle.path.specs.inner.Sizes.{maxSpeedDifference, maxSpeedAfterDelay, Sizes, Sized, farthest, InReach}
 use Rattle.window.proofs.Fields.{read-n, read-m, size}
 use Rattle.conflict.specs.declared.AdviceRule.{AdviceRule}
-use Rattle.conflict.specs.Divided.{ruleOf, missing}
-use Rattle.conflict.specs.RuleSizes.{mostStart, mostEdge, RuleSizes, mostMissing, mostBend}
+use Rattle.conflict.specs.inner.Divided.{ruleOf, missing}
+use Rattle.conflict.specs.inner.RuleSizes.{mostStart, mostEdge, RuleSizes, mostMissing, mostBend}
 
 -- ---- a call's result, which fits and equals t; no bound is known
 abbrev pub read-call : {x t : ℤ} → SFits w64 x → x ≡ t → Reading (toZ w64 (ofZ w64 x))

@@ -1,2 +1,1 @@
-pub mod Divided
-pub mod RuleSizes
+pub mod inner

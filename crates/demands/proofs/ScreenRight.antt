@@ -17,13 +17,14 @@ use Rattle.integers.proofs.Branches.{picks-yes, picks-no}
 use Rattle.instant.specs.declared.Instant.{Instant}
 use Rattle.instant.specs.declared.Time.{Time}
 use Rattle.instant.specs.Order.{_÷_, _≼_, _≺_, _≈_}
-use Rattle.instant.specs.Lowest.{lowest, shows, wholeTime}
+use Rattle.instant.specs.LowestTerms.{shows, wholeTime}
+use Rattle.instant.specs.Lowest.{lowest}
 use Rattle.instant.proofs.LowestTerms.{lowest-is, lowest-divisor-pos, lowest-same}
 use Rattle.instant.proofs.TimeOrder.{≼-trans, ≈-≼, ≈-sym}
 use Rattle.path.specs.declared.SensedQuestion.{SensedQuestion}
 use Rattle.path.specs.Letters.{a, d}
 use Rattle.path.specs.Paths.{lowerPath}
-use Rattle.path.specs.Sizes.{Sizes}
+use Rattle.path.specs.inner.Sizes.{Sizes}
 use Rattle.question.specs.declared.Encounter.{Encounter}
 use Rattle.question.specs.declared.Settings.{Settings}
 use Rattle.question.specs.declared.Question.{Question}
@@ -33,7 +34,7 @@ use Rattle.sensed.specs.Sensed.{sensedQuestion}
 use Rattle.sensed.proofs.AcceptedSizes.{accepted-sizes}
 use Rattle.pieces.specs.declared.WholePiece.{WholePiece}
 use Rattle.pieces.specs.Pieces.{missingSpeed, delayPiece, arcPiece, lastPiece, unless, pieces, pieceAt, pieceHeight}
-use Rattle.pieces.specs.PieceSizes.{PieceSizes}
+use Rattle.pieces.specs.inner.PieceSizes.{PieceSizes}
 use Rattle.pieces.specs.RightPieces.{InOrder, FollowPath, FromStart, meetingTimes, RightPieces}
 use Rattle.pieces.proofs.Fields.{delay-sizes, arc-sizes, last-sizes}
 use Rattle.pieces.proofs.PathPieces.{right-pieces}

@@ -9,7 +9,7 @@ use lib.Dec.{T}
 use lib.Ieee.Bits.{is-true}
 use lib.IntN.{ℤ}
 use lib.ListN.{length}
-use Rattle.advisory.specs.Catalogue.{Within}
+use Rattle.advisory.specs.Catalogue.{CodeWithin}
 use Rattle.question.specs.declared.Encounter.{Encounter}
 use Rattle.question.specs.declared.Settings.{Settings}
 use Rattle.question.specs.declared.Question.{Question}
@@ -107,10 +107,10 @@ module _ (sheet : List ℕ) (earlier : List Record) (given : Record) (later : Li
     coded-right : (x : Encounter) (z : Question) → st .encounter ≡ Present x → codedQuestion code (x .speed) limit ≡ CodedQuestion.Asked z → RightlyAnswered x (st .settings) z (Coded (st .encounter))
     coded-right x z e q = subst (RightlyAnswered x (st .settings) z) (sym (asked-is (st .encounter) x z e q)) (answer-right x (st .settings) z)
 
-    encounter-within : (met : LastEncounter) (x : Encounter) → met ≡ Present x → states.EncounterWithin met → T (encounterWithin x)
-    encounter-within met x e w = subst states.EncounterWithin e w
+    encounter-within : (met : LastEncounter) (x : Encounter) → met ≡ Present x → states.StoredEncounterWithin met → T (encounterWithin x)
+    encounter-within met x e w = subst states.StoredEncounterWithin e w
 
-    coded-region : (x : Encounter) → st .encounter ≡ Present x → Within 1 16 code → limit ≡ noLimit → CodeDemand2 x (st .settings) code (Coded (st .encounter))
+    coded-region : (x : Encounter) → st .encounter ≡ Present x → CodeWithin 1 16 code → limit ≡ noLimit → CodeDemand2 x (st .settings) code (Coded (st .encounter))
     coded-region x e range no-limit =
         let w = stored-within earlier in
         let y = st .settings in

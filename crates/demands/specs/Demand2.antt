@@ -9,7 +9,7 @@ use lib.IntN.{pos}
 use Rattle.advisory.specs.declared.Instruction.{Instruction}
 use Rattle.advisory.specs.declared.Reaction.{Reaction}
 use Rattle.advisory.specs.declared.Reacted.the-variants.{Row}
-use Rattle.advisory.specs.Catalogue.{articleEntries, Named, notJudged, Listed, Within}
+use Rattle.advisory.specs.Catalogue.{articleEntries, Named, notJudged, Listed, CodeWithin}
 use Rattle.advisory.specs.ReactionTable.{reactionTable, rowAt, rowsWith}
 use Rattle.advisory.specs.Advised.{advisedOf, instructionIn}
 use Rattle.advisory.specs.Table1.{g, gOver, table1, numbered, printedAt, InNeitherTable}
@@ -46,7 +46,7 @@ pub record CodeDemand2 (x : Encounter) (y : Settings) (code : ℕ) (answer : Ans
 pub table-1 : (code : ℕ) → code < 256 → instructionIn (advisedOf code) ≡ printedAt code
 table-1 = tables.advised-is-table-1
 
-pub sixteen : (code : ℕ) → code < 256 → Listed code ↔ Within 1 16 code
+pub sixteen : (code : ℕ) → code < 256 → Listed code ↔ CodeWithin 1 16 code
 sixteen = codes.lists-1-to-16
 
 -- "catalogue and reaction table list identical codes": a code is listed exactly if one row has it, and every row's code is listed
@@ -56,7 +56,7 @@ identical-codes = tables.listed-has-one-row
 pub rows-are-listed : (place : ℕ) (row : Reaction) → rowAt reactionTable place ≡ Row row → Listed (row .code)
 rows-are-listed = tables.row-is-listed
 
--- the names are Table 1's, in its order, with the codes from 1 on; g/4 and g/3 are whole; "codes 17 (COC) and 18 (MTLO) are named but not judged, and are in neither
+-- the names are Table 1's, in its order, with the codes from 1 on; g/4 and g/3 are whole; "Codes 17 (COC) and 18 (MTLO) are named but not judged, and are in neither
 -- table"
 pub names : map tables.codeAndName articleEntries ≡ numbered 1 table1
 names = tables.names-are-table-1

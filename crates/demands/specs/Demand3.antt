@@ -9,7 +9,8 @@ use lib.Signed.{_≤ℤ_}
 use Rattle.instant.specs.declared.Moment.the-variants.{At}
 use Rattle.instant.specs.declared.Time.{Time}
 use Rattle.instant.specs.Order.{_÷_, _≈_}
-use Rattle.instant.specs.Lowest.{LowestTerms, SizedTime, lowest, wholeTime}
+use Rattle.instant.specs.LowestTerms.{LowestTerms, SizedTime, wholeTime}
+use Rattle.instant.specs.Lowest.{lowest}
 use Rattle.instant.proofs.LowestTerms as terms
 use Rattle.path.specs.declared.Limit.{Limit}
 use Rattle.path.specs.declared.Limit.the-variants.{Unlimited, Upto}
@@ -33,7 +34,7 @@ abbrev pub NotStrictlyBeyond : Side → SensedQuestion → ℕ → ℕ → Type 
 NotStrictlyBeyond Lower s n m = lowerPath s n m ≤ℤ (pos 2 *ℤ pos (a s) *ℤ pos m *ℤ pos m *ℤ (wh s +ℤ pos (k s)))
 NotStrictlyBeyond Upper s n m = (pos 2 *ℤ pos (b s) *ℤ pos m *ℤ pos m *ℤ (wh s -ℤ pos (k s))) ≤ℤ upperPath s n m
 
--- n/m is a conflict time: "a rational time is n/m with whole n ≥ 0 and m ≥ 1"; "|r − c × t| ≤ p", times m
+-- n/m is a conflict time: "A rational time is n/m with whole n ≥ 0 and m ≥ 1"; "|r − c × t| ≤ p", times m
 pub record ConflictAt (side : Side) (s : SensedQuestion) (n m : ℕ) : Type 0 where
   pub rational : 1 ≤ m
   pub near : natAbs (r s *ℤ pos m -ℤ pos (c s) *ℤ pos n) ≤ p s * m
@@ -44,7 +45,7 @@ pub record ConflictAt (side : Side) (s : SensedQuestion) (n m : ℕ) : Type 0 wh
 abbrev pub SomeConflict : Side → SensedQuestion → Type 0
 SomeConflict side s = (n : ℕ) × (m : ℕ) × ConflictAt side s n m
 
--- "one-sided, the side is the lower one"; "two-sided: on each side"
+-- "One-sided, the side is the lower one"; "two-sided: on each side"
 abbrev pub ConflictOnEachSide : Bool → SensedQuestion → Type 0
 ConflictOnEachSide false s = SomeConflict Lower s
 ConflictOnEachSide true s = SomeConflict Lower s × SomeConflict Upper s
@@ -84,9 +85,9 @@ pub record Demand3 (two : Bool) (s : SensedQuestion) (v : Verdict) : Type 0 wher
   pub said : Said two s v
 
 -- Equal rational times, and only these, are shown as one time.
-pub one-time : (n m n′ m′ : ℕ) → 0 < m → 0 < m′ → (lowest n m ≡ lowest n′ m′) ↔ (n ÷ m ≈ n′ ÷ m′)
-one-time = terms.lowest-same
+pub one-time : (n m n′ m′ : ℕ) → 0 < m → 0 < m′ → (t t′ : Time) → LowestTerms n m t → LowestTerms n′ m′ t′ → (t ≡ t′) ↔ (n ÷ m ≈ n′ ÷ m′)
+one-time = terms.terms-same
 
--- "A whole time has remainder 0 and divisor 1."
-pub whole-times : (n m : ℕ) → 0 < m → m ∣ n → lowest n m ≡ wholeTime (n / m)
-whole-times = terms.lowest-whole
+-- "a whole time has remainder 0 and divisor 1"
+pub whole-times : (n m : ℕ) → 0 < m → m ∣ n → (t : Time) → LowestTerms n m t → t ≡ wholeTime (n / m)
+whole-times = terms.terms-whole

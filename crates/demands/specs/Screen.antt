@@ -10,7 +10,7 @@ use lib.Ieee.{Float}
 use Rattle.instant.specs.declared.Instant.{Instant}
 use Rattle.instant.specs.declared.Time.{Time}
 use Rattle.instant.specs.Order.{_÷_, _≼_, _≺_}
-use Rattle.instant.specs.Lowest.{shows, wholeTime}
+use Rattle.instant.specs.LowestTerms.{shows, wholeTime}
 use Rattle.path.specs.declared.SensedQuestion.{SensedQuestion}
 use Rattle.path.specs.Paths.{lowerPath}
 use Rattle.question.specs.declared.Encounter.{Encounter}

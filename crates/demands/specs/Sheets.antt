@@ -6,7 +6,7 @@ use Prim.Native.Nat.{ℕ, _^_, _<_, _≤_}
 use lib.Dec.{eqb}
 use lib.IntN.{ℤ}
 use lib.ListN.{length, drop}
-use Rattle.advisory.specs.Catalogue.{Within}
+use Rattle.advisory.specs.Catalogue.{CodeWithin}
 use Rattle.question.specs.declared.Encounter.{Encounter}
 use Rattle.question.specs.declared.Question.{Question}
 use Rattle.question.specs.declared.Checked.{Checked}
@@ -59,7 +59,7 @@ module _ (answers : List ℕ) (earlier : List Record) (given : Record) (later : 
     pub placed : AnsweredBy r
     pub order : refusalIn r ≡ firstRefusal (codedChecks (stateThere .encounter) code limit)
     pub right : (x : Encounter) (z : Question) → stateThere .encounter ≡ Present x → codedQuestion code (x .speed) limit ≡ CodedQuestion.Asked z → RightlyAnswered x (stateThere .settings) z r
-    pub region : (x : Encounter) → stateThere .encounter ≡ Present x → Within 1 16 code → limit ≡ noLimit → CodeDemand2 x (stateThere .settings) code r
+    pub region : (x : Encounter) → stateThere .encounter ≡ Present x → CodeWithin 1 16 code → limit ≡ noLimit → CodeDemand2 x (stateThere .settings) code r
 
   -- "1 an encounter field outside its limits; 2 puck; 3 e". A code is a byte.
   pub record RecordAnswered : Type 0 where
@@ -84,7 +84,7 @@ pub record SheetAnswered (sheet before after : List ℕ) (o : Outcome) : Type 0 
   pub accepted : sheetCheck sheet ≡ Checked.Accepted → length (sheetAnswer sheet) ≤ length before → o ≡ Accepted (length (sheetAnswer sheet))
   -- "no byte changed"
   pub unchanged : (number : ℕ) → o ≡ Refused number → after ≡ before
-  -- "bytes past the answer keep their values"
+  -- "Bytes past the answer keep their values."
   pub written : (size : ℕ) → o ≡ Accepted size → after ≡ sheetAnswer sheet ++ drop size before
   pub each : EachRecord sheet (sheetAnswer sheet)
 
@@ -96,7 +96,7 @@ outcomeIn r = cond (eqb (r .refusal) 0) (Accepted (r .length)) (Refused (r .refu
 pub refused-unchanged : (state : State) (given : Record) (r : Answer) → replyTo state given ≡ Answered r → stateAfter state given ≡ state
 refused-unchanged = stored.answered-unchanged
 
-pub stored-within : (earlier : List Record) → states.Within (stateAfterAll startingState earlier)
+pub stored-within : (earlier : List Record) → states.StoredWithin (stateAfterAll startingState earlier)
 stored-within = stored.stored-within
 
 -- ---- "Whole example, hex."

@@ -1,6 +1,7 @@
 -- Worked examples of lowest terms, each by computation. Assumes nothing.
 use mathlib.Core.Path.{_≡_, refl}
-use Rattle.instant.specs.Lowest.{lowest, wholeTime, noTime}
+use Rattle.instant.specs.LowestTerms.{wholeTime}
+use Rattle.instant.specs.Lowest.{lowest, noTime}
 
 -- M11 of document 01: the window starts at (300,000 − 30,000)/7,000, shown as 38 and 4/7
 pub m11-start : lowest 270000 7000 ≡ record { seconds = 38; remainder = 4; divisor = 7 }

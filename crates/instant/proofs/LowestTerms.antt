@@ -10,8 +10,10 @@ use native.Mathlib.Nat.{one-dvd, dvd-zero, dvd-refl, dvd-antisymm, dvd-mul-left,
 use native.Mathlib.Omega.{arith}
 use lib.Arith.{digits-div, digits-mod}
 use Rattle.instant.specs.declared.Time.{Time}
-use Rattle.instant.specs.Order.{_÷_, _≈_, Sized}
-use Rattle.instant.specs.Lowest.{shows, LowestTerms, gcd, wholeTime, reduced, lowest, SizedTime}
+use Rattle.instant.specs.Order.{_÷_, _≈_}
+use Rattle.instant.specs.inner.Sizes.{SizedInstant}
+use Rattle.instant.specs.LowestTerms.{shows, LowestTerms, wholeTime, SizedTime}
+use Rattle.instant.specs.Lowest.{gcd, reduced, lowest}
 use Rattle.instant.proofs.Euclid.{gcd-greatest, gcd-pos, gcd-scale, euclids-lemma}
 use Rattle.instant.proofs.TimeOrder.{≈-sym, ≈-trans, scaled-≈}
 
@@ -90,15 +92,16 @@ module _ (n m : ℕ) (m-pos : 0 < m) where
 -- ---- equal fractions
 
 -- two fractions have the same lowest terms where they are the same rational time, n * m′ ≡ n′ * m, and only there
+pub terms-same : (n m n′ m′ : ℕ) → 0 < m → 0 < m′ → (t t′ : Time) → LowestTerms n m t → LowestTerms n′ m′ t′ → (t ≡ t′) ↔ (n ÷ m ≈ n′ ÷ m′)
+terms-same n m n′ m′ m-pos m′-pos t t′ L L′ = (
+  λ e.
+      ≈-trans (n ÷ m) (shows t) (n′ ÷ m′) (lt-of-le-of-lt zero-le (L .below)) (≈-sym (shows t) (n ÷ m) (L .value))
+      (subst (λ (x : Time). shows x ≈ n′ ÷ m′) (sym e) (L′ .value)),
+  λ e. one-form n′ m′ m′-pos t t′ (record { value = ≈-trans (shows t) (n ÷ m) (n′ ÷ m′) m-pos (L .value) e; below = L .below; apart = L .apart }) L′,
+)
+
 pub lowest-same : (n m n′ m′ : ℕ) → 0 < m → 0 < m′ → (lowest n m ≡ lowest n′ m′) ↔ (n ÷ m ≈ n′ ÷ m′)
-lowest-same n m n′ m′ m-pos m′-pos =
-    let L = lowest-is n m m-pos in
-    let t = lowest n m in (
-      λ e.
-          ≈-trans (n ÷ m) (shows t) (n′ ÷ m′) (lowest-divisor-pos n m m-pos) (≈-sym (shows t) (n ÷ m) (L .value))
-          (subst (λ (x : Time). shows x ≈ n′ ÷ m′) (sym e) (lowest-is n′ m′ m′-pos .value)),
-      λ e. lowest-unique n′ m′ m′-pos t (record { value = ≈-trans (shows t) (n ÷ m) (n′ ÷ m′) m-pos (L .value) e; below = L .below; apart = L .apart }),
-    )
+lowest-same n m n′ m′ m-pos m′-pos = terms-same n m n′ m′ m-pos m′-pos (lowest n m) (lowest n′ m′) (lowest-is n m m-pos) (lowest-is n′ m′ m′-pos)
 
 pub lowest-scaled : (n m s : ℕ) → 0 < m → 0 < s → lowest (n * s) (m * s) ≡ lowest n m
 lowest-scaled n m s m-pos s-pos = lowest-same (n * s) (m * s) n m (mul-pos m-pos s-pos) m-pos .1 (scaled-≈ n m s)
@@ -109,8 +112,11 @@ pub whole-is : (n m : ℕ) → m ∣ n → LowestTerms n m (wholeTime (n / m))
 whole-is n m h = record { value = omega (arith, div-mul-cancel m h); below = zero-lt-suc 0; apart = λ k i j. le-of-dvd (zero-lt-suc 0) j }
 
 -- "a whole time has remainder 0 and divisor 1"
+pub terms-whole : (n m : ℕ) → 0 < m → m ∣ n → (t : Time) → LowestTerms n m t → t ≡ wholeTime (n / m)
+terms-whole n m m-pos h t L = one-form n m m-pos t (wholeTime (n / m)) L (whole-is n m h)
+
 pub lowest-whole : (n m : ℕ) → 0 < m → m ∣ n → lowest n m ≡ wholeTime (n / m)
-lowest-whole n m m-pos h = sym (lowest-unique n m m-pos (wholeTime (n / m)) (whole-is n m h))
+lowest-whole n m m-pos h = terms-whole n m m-pos h (lowest n m) (lowest-is n m m-pos)
 
 -- and nothing else has remainder 0
 pub remainder-zero : (n m : ℕ) (t : Time) → LowestTerms n m t → t .remainder ≡ 0 → t ≡ wholeTime (t .seconds)
@@ -138,7 +144,7 @@ pub divisor-le : (n m : ℕ) → lowest n m .divisor ≤ m
 divisor-le n zero = zero-le
 divisor-le n (suc m) = div-le-self (suc m) _
 
-pub lowest-sized : (n m : ℕ) → Sized (n ÷ m) → SizedTime (lowest n m)
+pub lowest-sized : (n m : ℕ) → SizedInstant (n ÷ m) → SizedTime (lowest n m)
 lowest-sized n m h =
     record {
       seconds = lt-of-le-of-lt (seconds-le n m) (h .n);

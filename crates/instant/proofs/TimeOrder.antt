@@ -10,7 +10,8 @@ use native.Mathlib.Omega.{arith}
 use lib.Pow.{pow-pos}
 use borrow.Author.Tests.{leb-true, leb-false, le-leb, lt-leb}
 use Rattle.instant.specs.declared.Instant.{Instant}
-use Rattle.instant.specs.Order.{_÷_, _≼_, _≺_, _≈_, noLater, earlier, Sized}
+use Rattle.instant.specs.Order.{_÷_, _≼_, _≺_, _≈_, noLater, earlier}
+use Rattle.instant.specs.inner.Sizes.{SizedInstant}
 
 -- ---- the test decides
 
@@ -44,8 +45,8 @@ module _ (a b : Instant) where
   pub earlier-latest : (c : Instant) → c ≼ a → c ≼ b → c ≼ earlier a b
   earlier-latest c h k = earlier-elim (λ x. c ≼ x) (λ l. h) (λ l. k)
 
-  pub earlier-sized : Sized a → Sized b → Sized (earlier a b)
-  earlier-sized h k = earlier-elim Sized (λ l. h) (λ l. k)
+  pub earlier-sized : SizedInstant a → SizedInstant b → SizedInstant (earlier a b)
+  earlier-sized h k = earlier-elim SizedInstant (λ l. h) (λ l. k)
 
 -- ---- an order
 

@@ -1,2 +1,4 @@
 pub mod Order
+pub mod LowestTerms
 pub mod Lowest
+pub mod inner

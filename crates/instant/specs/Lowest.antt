@@ -1,26 +1,7 @@
--- The time that shows n/m: "A time is whole seconds, remainder and divisor; the remainder is below the divisor, the remainder and divisor share no factor
--- above 1, and a whole time has remainder 0 and divisor 1" (document 01, "Paths and conflict").
-use Prim.Native.Nat.{ℕ, zero, suc, _+_, _*_, _/_, _%_, _^_, _≤_, _<_, _∣_}
-use Rattle.instant.specs.declared.Instant.{Instant}
+-- Lowest terms in a form that computes. What is believed is `LowestTerms`, in the file of that name; that this is the time of which it holds is proved:
+-- `lowest-is`, `lowest-unique`, in `proofs/LowestTerms.antt`.
+use Prim.Native.Nat.{ℕ, zero, suc, _/_, _%_}
 use Rattle.instant.specs.declared.Time.{Time}
-use Rattle.instant.specs.Order.{_÷_, _≈_}
-
--- the rational time that a time shows
-abbrev pub shows : Time → Instant
-shows t = t .seconds * t .divisor + t .remainder ÷ t .divisor
-
--- t is n/m in lowest terms
-pub record LowestTerms (n m : ℕ) (t : Time) : Type 0 where
-  -- (seconds * divisor + remainder) * m ≡ n * divisor
-  pub value : shows t ≈ n ÷ m
-  -- "the remainder is below the divisor"
-  pub below : t .remainder < t .divisor
-  -- "the remainder and divisor share no factor above 1"
-  pub apart : (k : ℕ) → k ∣ t .remainder → k ∣ t .divisor → k ≤ 1
-
--- "a whole time has remainder 0 and divisor 1"
-abbrev pub wholeTime : ℕ → Time
-wholeTime s = record { seconds = s; remainder = 0; divisor = 1 }
 
 -- the answer for n/0: no time, since no remainder is below 0
 abbrev pub noTime : Time
@@ -44,9 +25,3 @@ reduced n m = record { seconds = n / m; remainder = n % m / gcd m (n % m); divis
 abbrev pub lowest : ℕ → ℕ → Time
 lowest n zero = noTime
 lowest n (suc m) = reduced n (suc m)
-
--- small enough for an answer record's "4 unsigned bytes each" (document 01, "The sheet")
-pub record SizedTime (t : Time) : Type 0 where
-  pub seconds : t .seconds < 2 ^ 32
-  pub remainder : t .remainder < 2 ^ 32
-  pub divisor : t .divisor < 2 ^ 32

@@ -1,8 +1,8 @@
 -- Rational times and their order: "A rational time is n/m with whole n ≥ 0 and m ≥ 1; each comparison at it is multiplied through by its divisors, all
--- positive, so that only whole numbers are compared" (document 01, "Paths and conflict").
+-- positive (m, m², 2, a or b), so that only whole numbers are compared" (document 01, "Paths and conflict").
 use mathlib.Core.Bool.{Bool, cond}
 use mathlib.Core.Path.{_≡_}
-use Prim.Native.Nat.{ℕ, _*_, _^_, _≤_, _<_}
+use Prim.Native.Nat.{ℕ, _*_, _≤_, _<_}
 use lib.Dec.{leb}
 use Rattle.instant.specs.declared.Instant.{Instant}
 
@@ -31,8 +31,3 @@ noLater a b = leb (a .n * b .m) (b .n * a .m)
 -- the earlier of two instants: a where a is no later than b, else b
 abbrev pub earlier : Instant → Instant → Instant
 earlier a b = cond (noLater a b) a b
-
--- small enough that the products fit 64 bits; the limits of document 01 keep n and m far below
-pub record Sized (a : Instant) : Type 0 where
-  pub n : a .n < 2 ^ 32
-  pub m : a .m < 2 ^ 32

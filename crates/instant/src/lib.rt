@@ -3,7 +3,8 @@
 ghost use mathlib.Core.Path.{_≡_};
 ghost use Prim.Native.Nat.{min};
 ghost use lib.Count.{trailingZeros};
-ghost use Rattle.instant.specs.Order.{Sized, noLater, earlier};
+ghost use Rattle.instant.specs.Order.{noLater, earlier};
+ghost use Rattle.instant.specs.inner.Sizes.{SizedInstant};
 ghost use Rattle.instant.specs.Lowest.{gcd, lowest};
 
 // The rational time n/m, in seconds; a time has m ≥ 1.
@@ -27,7 +28,7 @@ pub struct Time {
 
 // Is a no later than b?
 pub fn no_later(a: Instant, b: Instant) -> bool
-    requires { ⌜ Sized a × Sized b ⌝ }
+    requires { ⌜ SizedInstant a × SizedInstant b ⌝ }
     ensures { λ r. ⌜ r ≡ noLater a b ⌝ }
 {
     a.n * b.m <= b.n * a.m
@@ -35,7 +36,7 @@ pub fn no_later(a: Instant, b: Instant) -> bool
 
 // The earlier of a and b; a where they are the same rational time.
 pub fn earlier(a: Instant, b: Instant) -> Instant
-    requires { ⌜ Sized a × Sized b ⌝ }
+    requires { ⌜ SizedInstant a × SizedInstant b ⌝ }
     ensures { λ r. ⌜ r ≡ earlier a b ⌝ }
 {
     if no_later(a, b) { a } else { b }

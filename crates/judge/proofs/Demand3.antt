@@ -11,7 +11,7 @@ use Rattle.path.specs.declared.SensedQuestion.{SensedQuestion}
 use Rattle.path.specs.declared.Side.{Side}
 use Rattle.path.specs.declared.Side.the-variants.{Lower, Upper}
 use Rattle.path.specs.Conflict.{ConflictExists}
-use Rattle.path.specs.Sizes.{Sized}
+use Rattle.path.specs.inner.Sizes.{Sized}
 use Rattle.shown.specs.TimeShown.{timeShown}
 use Rattle.shown.proofs.RulePicks.{rule-picks, never-none, shown-conflict}
 use Rattle.shown.proofs.InstantsInReach.{picked-sized}

@@ -6,7 +6,8 @@ use Rattle.advisory.specs.ReactionTable.{reactionTable}
 use Rattle.advisory.specs.Advised.{advisedOf}
 use Rattle.shown.specs.TimeShown.{timeShown}
 use Rattle.judge.specs.Answers.{answer}
-use Rattle.judge.specs.Examples.{Example, examples, answered}
+use Rattle.judge.specs.Examples.{Example, examples}
+use Rattle.judge.proofs.ExampleAnswers.{answered}
 
 pub examples-hold : map answered examples ≡ map (λ (m : Example). m .answer) examples
 unfolding answer timeShown examples advisedOf catalogueOf articleEntries notJudged reactionTable

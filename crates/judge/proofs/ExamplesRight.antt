@@ -17,7 +17,8 @@ use Rattle.question.specs.StartingSettings.{startingSettings}
 use Rattle.coded.specs.declared.CodedQuestion.{CodedQuestion}
 use Rattle.coded.specs.Coded.{codedQuestion}
 use Rattle.judge.specs.Answers.{AnswerRecord, answer, answerRecord}
-use Rattle.judge.specs.Examples.{Example, examples, answerTo, answered}
+use Rattle.judge.specs.Examples.{Example, examples}
+use Rattle.judge.proofs.ExampleAnswers.{answerTo, answered}
 use Rattle.judge.proofs.ExamplesHold.{examples-hold}
 use Rattle.judge.specs.Marked.{Proved}
 use Rattle.judge.proofs.Demand3.{demand-3}

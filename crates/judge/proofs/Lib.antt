@@ -1,3 +1,4 @@
+pub mod ExampleAnswers
 pub mod ExamplesHold
 pub mod AnswerRecords
 pub mod Demand3

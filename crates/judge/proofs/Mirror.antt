@@ -27,7 +27,8 @@ use Rattle.sensed.specs.Sensed.{sensedQuestion}
 use Rattle.verdict.specs.Verdicts.{verdict}
 use Rattle.judge.specs.Answers.{answer}
 use Rattle.question.specs.StartingSettings.{startingSettings}
-use Rattle.judge.specs.Examples.{meet, descend, answerTo}
+use Rattle.judge.specs.Examples.{meet, descend}
+use Rattle.judge.proofs.ExampleAnswers.{answerTo}
 use Rattle.judge.specs.Mirror.{mirrored, turned}
 use Rattle.question.proofs.WithinLimits.{AllPass, all-pass, between, within-in, or-else}
 use Rattle.judge.proofs.Demand3.{judged}

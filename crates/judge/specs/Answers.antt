@@ -41,7 +41,8 @@ sidesNumber ClearSides.Both = 3
 abbrev pub timeNumbers : Time → List ℕ
 timeNumbers t = t .seconds ∷ t .remainder ∷ t .divisor ∷ []
 
--- "Kind 65 clear, body 1 byte; kind 66 one-sided conflict; kind 67 two such times, lower first; kind 68 one byte, the refusal number."
+-- "kind 65 clear, body 1 byte (1 lower side clear, 2 upper, 3 both; one-sided always 1); kind 66 one-sided conflict, whole seconds, remainder, divisor, 4
+-- unsigned bytes each; kind 67 two such times, lower first; kind 68 one byte, the refusal number"
 abbrev pub answerRecord : Answer → AnswerRecord
 answerRecord (Answer.Judged (Clear sides)) = answers 65 (sidesNumber sides ∷ [])
 answerRecord (Answer.Judged (Conflict t)) = answers 66 (timeNumbers t)

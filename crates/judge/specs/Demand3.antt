@@ -1,9 +1,9 @@
--- Demand 3: what it is for an answer to be right. "Such a time" is a rational conflict time of the paths (`path`, specs/Conflict.antt).
+-- Demand 3: what it is for an answer to be right. Conflict times are those of the paths (`path`, specs/Conflict.antt).
 use mathlib.Core.Bool.{Bool, true, false}
 use Rattle.instant.specs.declared.Instant.{Instant}
 use Rattle.instant.specs.declared.Moment.the-variants.{At}
 use Rattle.instant.specs.declared.Time.{Time}
-use Rattle.instant.specs.Lowest.{LowestTerms, SizedTime}
+use Rattle.instant.specs.LowestTerms.{LowestTerms, SizedTime}
 use Rattle.path.specs.declared.SensedQuestion.{SensedQuestion}
 use Rattle.path.specs.declared.Side.{Side}
 use Rattle.path.specs.declared.Side.the-variants.{Lower, Upper}

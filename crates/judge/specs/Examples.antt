@@ -4,13 +4,11 @@ use Prim.Native.Nat.{ℕ}
 use Prim.Native.String.{String}
 use lib.IntN.{ℤ, pos, negℤ}
 use Rattle.question.specs.declared.Encounter.{Encounter}
-use Rattle.question.specs.declared.Settings.{Settings}
+use Rattle.question.specs.declared.Question.{Question}
 use Rattle.coded.specs.declared.CodedQuestion.{CodedQuestion}
-use Rattle.judge.specs.declared.Answer.{Answer}
 use Rattle.limits.specs.Limits.{noLimit}
-use Rattle.question.specs.StartingSettings.{startingSettings}
 use Rattle.coded.specs.Coded.{codedQuestion}
-use Rattle.judge.specs.Answers.{answer, AnswerRecord, answers, answerRecord}
+use Rattle.judge.specs.Answers.{answer, AnswerRecord, answers}
 
 -- an example: its name, its encounter, what is asked there, and the answer
 pub record Example : Type 0 where
@@ -23,9 +21,13 @@ pub record Example : Type 0 where
 abbrev pub meet : ℤ → ℤ → ℤ → ℤ → Encounter
 meet r h c v = record { distance = r; height = h; «closing_speed» = c; speed = v; «intruder_speed» = pos 0 }
 
--- "One-sided with upper fields 0, strength 500, no delay": sense, target, limit
+-- A free question, as what is asked. (M10 asks by code: `codedQuestion`.)
+abbrev pub freely : Question → CodedQuestion
+freely = CodedQuestion.Asked
+
+-- "one-sided with upper fields 0, strength 500", no delay: sense, target, limit
 abbrev pub oneSided : ℤ → ℤ → ℤ → CodedQuestion
-oneSided sense target limit = CodedQuestion.Asked (record { sides = pos 1; sense = sense; target = target; «upper_target» = pos 0; strength = pos 500; «upper_strength» = pos 0; delay = pos 0; limit = limit })
+oneSided sense target limit = freely (record { sides = pos 1; sense = sense; target = target; «upper_target» = pos 0; strength = pos 500; «upper_strength» = pos 0; delay = pos 0; limit = limit })
 
 abbrev pub climb : ℤ → ℤ → CodedQuestion
 climb = oneSided (pos 1)
@@ -33,9 +35,9 @@ climb = oneSided (pos 1)
 abbrev pub descend : ℤ → ℤ → CodedQuestion
 descend = oneSided (pos 0)
 
--- "Two-sided, sense climb, both targets 0", strength and upper strength 500
+-- "two-sided, sense climb, both targets 0", strength and upper strength 500
 abbrev pub betweenZero : CodedQuestion
-betweenZero = CodedQuestion.Asked (record { sides = pos 2; sense = pos 1; target = pos 0; «upper_target» = pos 0; strength = pos 500; «upper_strength» = pos 500; delay = pos 0; limit = noLimit })
+betweenZero = freely (record { sides = pos 2; sense = pos 1; target = pos 0; «upper_target» = pos 0; strength = pos 500; «upper_strength» = pos 500; delay = pos 0; limit = noLimit })
 
 abbrev pub clear : ℕ → AnswerRecord
 clear sides = answers 65 (sides ∷ [])
@@ -66,11 +68,3 @@ examples =
     ∷ example "M14" (meet (negℤ (pos 30001)) (pos 0) (pos 10000) (pos 0)) (climb (pos 0) noLimit) (clear 1)
     ∷ example "M15" (meet (negℤ (pos 30000)) (negℤ (pos 6000)) (pos 10000) (pos 0)) (climb (pos 0) noLimit) (conflictAt 0 0 1)
     ∷ []
-
--- the answer to what is asked, by code or freely
-abbrev pub answerTo : Encounter → Settings → CodedQuestion → Answer
-answerTo x y (CodedQuestion.Asked z) = answer x y z
-answerTo x y (CodedQuestion.Refused n) = Answer.Refused n
-
-abbrev pub answered : Example → AnswerRecord
-answered m = answerRecord (answerTo (m .encounter) startingSettings (m .question))

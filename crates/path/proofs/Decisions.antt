@@ -11,8 +11,9 @@ use Rattle.path.specs.declared.Limit.the-variants.{Unlimited, Upto}
 use Rattle.path.specs.declared.SensedQuestion.{SensedQuestion}
 use Rattle.path.specs.declared.Side.{Side}
 use Rattle.path.specs.declared.Side.the-variants.{Lower, Upper}
-use Rattle.path.specs.Window.{InTime, inTime, distanceAt, Window, inWindow}
-use Rattle.path.specs.Conflict.{NotBeyond, notBeyond, Conflict, inConflict}
+use Rattle.path.specs.Window.{InTime, distanceAt, Window}
+use Rattle.path.specs.inner.Tests.{inTime, inWindow, notBeyond, inConflict}
+use Rattle.path.specs.Conflict.{NotBeyond, Conflict}
 
 pub intime-decided : (l : Limit) (n m : ℕ) → T (inTime l n m) ↔ InTime l n m
 intime-decided Unlimited n m = (λ t. t, λ h. h)

@@ -8,12 +8,12 @@ use native.Mathlib.Omega.{arith}
 use Rattle.instant.specs.declared.Instant.{Instant}
 use Rattle.instant.specs.declared.Moment.{Moment}
 use Rattle.instant.specs.Order.{_÷_, _≼_}
-use Rattle.path.specs.Instants.{Among, listed}
+use Rattle.path.specs.Instants.{Among, asList}
 
 -- n/m is no earlier than `first` and, where there is a `last`, no later than it
 pub record Between (first : Instant) (last : Moment) (n m : ℕ) : Type 0 where
   pub after : first ≼ n ÷ m
-  pub before : (t : Instant) → Among t (listed last) → n ÷ m ≼ t
+  pub before : (t : Instant) → Among t (asList last) → n ÷ m ≼ t
 
 -- ---- a denominator for all the instants of a list: the product of theirs
 pub denominator : List Instant → ℕ

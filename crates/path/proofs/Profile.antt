@@ -16,7 +16,7 @@ use Rattle.instant.specs.declared.Instant.{Instant}
 use Rattle.instant.specs.declared.Moment.{Moment}
 use Rattle.instant.specs.declared.Moment.the-variants.{At, Never}
 use Rattle.instant.specs.Order.{_÷_, _≼_}
-use Rattle.path.specs.Instants.{Among, listed}
+use Rattle.path.specs.Instants.{Among, asList}
 use Rattle.path.proofs.Membership.{among-left, among-right, among-one}
 use Rattle.path.proofs.Pieces.{Pieces, EndsInHill, least-closed, least-open}
 use Rattle.path.proofs.Interval.{Between, denominator, denominator-positive, Multiple, denominator-multiple, Over, over-multiple, Place, over-le, over-ge, le-over, ge-over}
@@ -44,7 +44,7 @@ pub record Profile : Type 1 where
   pub mids : List Instant
   pub sinks : Type 0
   pub shape : (M : ℕ) → 0 < M → ((t : Instant) → Among t mids → Multiple M t) → Shape height mids sinks M
-  pub divisor : (t : Instant) → Among t (first ∷ (mids ++ listed last)) → 0 < t .m
+  pub divisor : (t : Instant) → Among t (first ∷ (mids ++ asList last)) → 0 < t .m
 
 -- in the window, and at the edge or below it
 pub record Low (P : Profile) (n m : ℕ) : Type 0 where
@@ -53,7 +53,7 @@ pub record Low (P : Profile) (n m : ℕ) : Type 0 where
 
 -- all that the time rule tries
 abbrev pub tried : Profile → List Instant
-tried P = P .first ∷ (P .mids ++ listed (P .last))
+tried P = P .first ∷ (P .mids ++ asList (P .last))
 
 -- ---- an order between two heights, and between the same on a scale that is s*s larger
 module _ (s : ℕ) {x y x′ y′ : ℤ} (e : x′ ≡ pos s *ℤ pos s *ℤ x) (f : y′ ≡ pos s *ℤ pos s *ℤ y) where
@@ -119,10 +119,10 @@ module _ (P : Profile) (n m : ℕ) (pm : 0 < m) (L : Low P n m) (Y : Type 0)
   over t i = let d = multiple t i in (t .n * d .0, over-multiple t (d .0) M M-positive (d .1))
 
   mid-tried : (t : Instant) → Among t (P .mids) → Among t (tried P)
-  mid-tried t i = inr (among-left t (P .mids) (listed (P .last)) i)
+  mid-tried t i = inr (among-left t (P .mids) (asList (P .last)) i)
 
-  last-tried : (t : Instant) → Among t (listed (P .last)) → Among t (tried P)
-  last-tried t i = inr (among-right t (P .mids) (listed (P .last)) i)
+  last-tried : (t : Instant) → Among t (asList (P .last)) → Among t (tried P)
+  last-tried t i = inr (among-right t (P .mids) (asList (P .last)) i)
 
   -- an instant of the list in the window, no higher than the given time, is low
   reach : (t : Instant) → Among t (tried P) → (x : ℕ) → Over t x M → P .In x M → P .height x M ≤ℤ P .height y M → Y
@@ -132,7 +132,7 @@ module _ (P : Profile) (n m : ℕ) (pm : 0 < m) (L : Low P n m) (Y : Type 0)
   S : (x : ℕ) × Over (P .first) x M
   S = over (P .first) (inl refl)
 
-  inside : (E : ℕ) → ((x : ℕ) → x ≤ E → (t : Instant) → Among t (listed (P .last)) → x ÷ M ≼ t) → (x : ℕ) → S .0 ≤ x → x ≤ E → P .In x M
+  inside : (E : ℕ) → ((x : ℕ) → x ≤ E → (t : Instant) → Among t (asList (P .last)) → x ÷ M ≼ t) → (x : ℕ) → S .0 ≤ x → x ≤ E → P .In x M
   inside E f x i j = P .between-in y M x M M-positive (given .window) (record { after = ge-over (P .first) (S .0) M (S .1) x i; before = f x j })
 
   S-y : S .0 ≤ y
@@ -143,10 +143,10 @@ module _ (P : Profile) (n m : ℕ) (pm : 0 < m) (L : Low P n m) (Y : Type 0)
 
   closed : (e : Instant) → P .last ≡ At e → Y
   closed e same =
-      let i : Among e (listed (P .last)) = subst (λ (l : Moment). Among e (listed l)) (sym same) (inl refl) in
+      let i : Among e (asList (P .last)) = subst (λ (l : Moment). Among e (asList l)) (sym same) (inl refl) in
       let o = over e (last-tried e i) in
-      let here : (x : ℕ) → x ≤ o .0 → (t : Instant) → Among t (listed (P .last)) → x ÷ M ≼ t =
-      λ x h t a. among-one (λ z. x ÷ M ≼ z) e t (le-over e (o .0) M (o .1) x h) (subst (λ (l : Moment). Among t (listed l)) same a) in
+      let here : (x : ℕ) → x ≤ o .0 → (t : Instant) → Among t (asList (P .last)) → x ÷ M ≼ t =
+      λ x h t a. among-one (λ z. x ÷ M ≼ z) e t (le-over e (o .0) M (o .1) x h) (subst (λ (l : Moment). Among t (asList l)) same a) in
       let w = inside (o .0) here in
       let h : y ≤ o .0 = over-le e (o .0) M (o .1) y (P .divisor e (last-tried e i)) (P .in-between y M M-positive (given .window) .before e i) in
       let s = S-y in
@@ -163,8 +163,8 @@ module _ (P : Profile) (n m : ℕ) (pm : 0 < m) (L : Low P n m) (Y : Type 0)
       (λ x k i h. let q = g .places x k in reach (q .t) (mid-tried (q .t) (q .among)) x (q .over) (w x i) h)
       (λ h. sunk same (g .tail h) (λ j a. P .between-in y M j 1 M-positive (given .window) (record { after = a; before = none j 1 })))
     where
-      none : (x z : ℕ) (t : Instant) → Among t (listed (P .last)) → x ÷ z ≼ t
-      none x z t i = absurd (subst (λ (l : Moment). Among t (listed l)) same i)
+      none : (x z : ℕ) (t : Instant) → Among t (asList (P .last)) → x ÷ z ≼ t
+      none x z t i = absurd (subst (λ (l : Moment). Among t (asList l)) same i)
 
       w : (x : ℕ) → S .0 ≤ x → P .In x M
       w x i = inside x (λ z j. none z M) x i (omega arith)

@@ -23,8 +23,8 @@ use Rattle.path.specs.declared.Side.the-variants.{Lower, Upper}
 use Rattle.path.specs.Paths.{adviceGain, delayHeight, u-d, lowerPath, upperTarget, upperPath}
 use Rattle.path.specs.Window.{Window, windowStart, windowEnd}
 use Rattle.path.specs.Conflict.{lowerEdge, upperEdge, NotBeyond, Conflict}
-use Rattle.path.specs.Instants.{Among, listed, turningInstant, pathInstants, instants}
-use Rattle.path.specs.Sizes.{maxSpeedDifference, Sizes, Sized, searchSeconds, searchEnd}
+use Rattle.path.specs.Instants.{Among, asList, turningInstant, pathInstants, instants}
+use Rattle.path.specs.inner.Sizes.{maxSpeedDifference, Sizes, Sized, searchSeconds, searchEnd}
 use Rattle.path.proofs.Membership.{among-one, among-either}
 use Rattle.path.proofs.AdviceRule.{missing, gain-rises, gain-falls, gain-at-most, gain-at-least, gain-zero, falls-to-turning, rises-from-turning, gain-sinks, delay-rises, delay-falls, gain-scale, delay-scale}
 use Rattle.path.proofs.Pieces.{Pieces, last-hill, last-rise, last-valley, EndsInHill}
@@ -49,10 +49,10 @@ delay-pieces e M u = last-hill (λ x y z i j k. ⊎-elim
 pub record RuleShape (a w : ℕ) (q x : ℤ) (M : ℕ) : Type 0 where
   pub marks : List ℕ
   pub pieces : Pieces (λ n. adviceGain a q x n M) 0 marks
-  pub places : (y : ℕ) → Among y (later (w * M) marks) → Place (listed (turningInstant q a w x)) y M
+  pub places : (y : ℕ) → Among y (later (w * M) marks) → Place (asList (turningInstant q a w x)) y M
   pub tail : EndsInHill pieces → q <ℤ pos 0
 
-pub rule-shape : (a w : ℕ) (q x : ℤ) (M : ℕ) → 0 < a → 0 < M → ((t : Instant) → Among t (listed (turningInstant q a w x)) → Multiple M t) → RuleShape a w q x M
+pub rule-shape : (a w : ℕ) (q x : ℤ) (M : ℕ) → 0 < a → 0 < M → ((t : Instant) → Among t (asList (turningInstant q a w x)) → Multiple M t) → RuleShape a w q x M
 rule-shape a w (pos q) x M pa pM f =
     let g = max0 (negℤ x) in
     let t = w * a + g ÷ a in
@@ -106,7 +106,7 @@ lower-scale s = continued-scale (s .strength) (delayHeight (s .«delay_accelerat
 pub lower-edge-scale : (s : SensedQuestion) (m x : ℕ) → lowerEdge s (m * x) ≡ pos x *ℤ pos x *ℤ lowerEdge s m
 lower-edge-scale s m x = ring (s .strength ∷ m ∷ x ∷ s .«half_height» ∷ []) (s .level ∷ []) (λ v. search quote depth 20) tt
 
-turning-divisor : (q : ℤ) (a d : ℕ) (x : ℤ) (t : Instant) → 0 < a → Among t (listed (turningInstant q a d x)) → 0 < t .m
+turning-divisor : (q : ℤ) (a d : ℕ) (x : ℤ) (t : Instant) → 0 < a → Among t (asList (turningInstant q a d x)) → 0 < t .m
 turning-divisor (pos q) a d x t h i = among-one (λ y. 0 < y .m) (d * a + max0 (negℤ x) ÷ a) t h i
 turning-divisor (negsuc q) a d x t h i = absurd i
 
@@ -141,7 +141,7 @@ path-divisor Upper s z t i = absurd i
 
 pub instants-divisor : (side : Side) (s : SensedQuestion) → Sized side s → (t : Instant) → Among t (instants side s) → 0 < t .m
 instants-divisor side s z t (inl e) = subst (λ (x : Instant). 0 < x .m) (sym e) (windowStart-divisor s)
-instants-divisor side s z t (inr i) = ⊎-elim (path-divisor side s z t) (windowEnd-divisor s t) (among-either t (pathInstants side s) (listed (windowEnd s)) i)
+instants-divisor side s z t (inr i) = ⊎-elim (path-divisor side s z t) (windowEnd-divisor s t) (among-either t (pathInstants side s) (asList (windowEnd s)) i)
 
 profile : (side : Side) (s : SensedQuestion) → Sized side s → Profile
 profile Lower s z = record {

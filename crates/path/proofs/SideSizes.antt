@@ -2,7 +2,7 @@
 use Rattle.path.specs.declared.SensedQuestion.{SensedQuestion}
 use Rattle.path.specs.declared.Side.{Side}
 use Rattle.path.specs.declared.Side.the-variants.{Lower, Upper}
-use Rattle.path.specs.Sizes.{Sizes, Sized}
+use Rattle.path.specs.inner.Sizes.{Sizes, Sized}
 
 pub sizes-of : (side : Side) (s : SensedQuestion) → Sized side s → Sizes s
 sizes-of Lower s z = z

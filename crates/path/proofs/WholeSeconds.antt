@@ -12,7 +12,7 @@ use Rattle.path.specs.declared.Side.{Side}
 use Rattle.path.specs.declared.Side.the-variants.{Lower, Upper}
 use Rattle.path.specs.Paths.{adviceGain, delayHeight, u-d, lowerPath, upperTarget, upperPath}
 use Rattle.path.specs.Conflict.{NotBeyond}
-use Rattle.path.specs.Sizes.{searchStart}
+use Rattle.path.specs.inner.Sizes.{searchStart}
 use Rattle.path.proofs.AdviceRule.{missing, gain-rises, gain-falls, gain-zero, gain-sinks, delay-rises, delay-falls}
 use Rattle.path.proofs.Continued.{before-keeps, after-keeps}
 use Rattle.path.proofs.SideProfiles.{Approaches}

@@ -19,7 +19,7 @@ use Rattle.path.specs.declared.Limit.{Limit}
 use Rattle.path.specs.declared.Limit.the-variants.{Unlimited, Upto}
 use Rattle.path.specs.declared.SensedQuestion.{SensedQuestion}
 use Rattle.path.specs.Window.{InTime, distanceAt, Window, startOf, endOf, windowStart, windowEnd}
-use Rattle.path.specs.Instants.{Among, listed}
+use Rattle.path.specs.Instants.{Among, asList}
 use Rattle.path.proofs.Membership.{among-one}
 use Rattle.path.proofs.Interval.{Between}
 
@@ -52,7 +52,7 @@ exit-last c p r n m h = nat≤ {m = n * suc c} {n = max0 (r +ℤ pos p) * m}
 limit-last : (L n m : ℕ) → n ≤ L * m → n ÷ m ≼ L ÷ 1
 limit-last L n m h = omega arith
 
-end-last : (c p : ℕ) (r : ℤ) (l : Limit) (n m : ℕ) (t : Instant) → (pos c *ℤ pos n) ≤ℤ ((r +ℤ pos p) *ℤ pos m) → InTime l n m → Among t (listed (endOf c r p l)) → n ÷ m ≼ t
+end-last : (c p : ℕ) (r : ℤ) (l : Limit) (n m : ℕ) (t : Instant) → (pos c *ℤ pos n) ≤ℤ ((r +ℤ pos p) *ℤ pos m) → InTime l n m → Among t (asList (endOf c r p l)) → n ÷ m ≼ t
 end-last zero p r Unlimited n m t h i a = absurd a
 end-last zero p r (Upto L) n m t h i a = among-one (λ x. n ÷ m ≼ x) (L ÷ 1) t (limit-last L n m i) a
 end-last (suc c) p r Unlimited n m t h i a = among-one (λ x. n ÷ m ≼ x) (max0 (r +ℤ pos p) ÷ suc c) t (exit-last c p r n m h) a
@@ -96,7 +96,7 @@ pub record Ended (c p : ℕ) (r : ℤ) (l : Limit) (x y : ℕ) : Type 0 where
   pub exit : (pos c *ℤ pos x) ≤ℤ ((r +ℤ pos p) *ℤ pos y)
   pub intime : InTime l x y
 
-end-in : (c p : ℕ) (r : ℤ) (l : Limit) (n m x y : ℕ) → 0 < m → (pos c *ℤ pos n) ≤ℤ ((r +ℤ pos p) *ℤ pos m) → ((t : Instant) → Among t (listed (endOf c r p l)) → x ÷ y ≼ t) → Ended c p r l x y
+end-in : (c p : ℕ) (r : ℤ) (l : Limit) (n m x y : ℕ) → 0 < m → (pos c *ℤ pos n) ≤ℤ ((r +ℤ pos p) *ℤ pos m) → ((t : Instant) → Among t (asList (endOf c r p l)) → x ÷ y ≼ t) → Ended c p r l x y
 end-in zero p r Unlimited n m x y pm h f = record { exit = exit-still p r n m x y pm h; intime = tt }
 end-in zero p r (Upto L) n m x y pm h f = record { exit = exit-still p r n m x y pm h; intime = omega (arith, f (L ÷ 1) (inl refl)) }
 end-in (suc c) p r Unlimited n m x y pm h f = record { exit = exit-in c p r n m x y pm h (f (max0 (r +ℤ pos p) ÷ suc c) (inl refl)); intime = tt }
@@ -115,7 +115,7 @@ start-divisor : (c p : ℕ) (r : ℤ) → 0 < startOf c r p .m
 start-divisor zero p r = omega arith
 start-divisor (suc c) p r = omega arith
 
-end-divisor : (c p : ℕ) (r : ℤ) (l : Limit) (t : Instant) → Among t (listed (endOf c r p l)) → 0 < t .m
+end-divisor : (c p : ℕ) (r : ℤ) (l : Limit) (t : Instant) → Among t (asList (endOf c r p l)) → 0 < t .m
 end-divisor zero p r Unlimited t a = absurd a
 end-divisor zero p r (Upto L) t a = among-one (λ x. 0 < x .m) (L ÷ 1) t (omega arith) a
 end-divisor (suc c) p r Unlimited t a = among-one (λ x. 0 < x .m) (max0 (r +ℤ pos p) ÷ suc c) t (omega arith) a
@@ -125,14 +125,14 @@ end-divisor (suc c) p r (Upto L) t a = among-one (λ x. 0 < x .m) (earlier (max0
 pub windowStart-divisor : (s : SensedQuestion) → 0 < windowStart s .m
 windowStart-divisor s = start-divisor (s .«closing_speed») (s .radius) (s .distance)
 
-pub windowEnd-divisor : (s : SensedQuestion) (t : Instant) → Among t (listed (windowEnd s)) → 0 < t .m
+pub windowEnd-divisor : (s : SensedQuestion) (t : Instant) → Among t (asList (windowEnd s)) → 0 < t .m
 windowEnd-divisor s = end-divisor (s .«closing_speed») (s .radius) (s .distance) (s .limit)
 
 -- ---- without an end c is 0, and the window starts at 0
 pub endless-start-zero : (s : SensedQuestion) → windowEnd s ≡ Never → windowStart s ≡ 0 ÷ 1
-endless-start-zero s e = go (s .«closing_speed») (s .limit) (ap listed e)
+endless-start-zero s e = go (s .«closing_speed») (s .limit) (ap asList e)
   where
-    go : (c : ℕ) (l : Limit) → listed (endOf c (s .distance) (s .radius) l) ≡ [] → startOf c (s .distance) (s .radius) ≡ 0 ÷ 1
+    go : (c : ℕ) (l : Limit) → asList (endOf c (s .distance) (s .radius) l) ≡ [] → startOf c (s .distance) (s .radius) ≡ 0 ÷ 1
     go zero l h = refl
     go (suc c) Unlimited h = absurd (let z : _≡_ {A = ℕ} 0 1 = cc in omega arith)
     go (suc c) (Upto L) h = absurd (let z : _≡_ {A = ℕ} 0 1 = cc in omega arith)

@@ -1,9 +1,11 @@
--- The instants that the time rule tries: lower, "window start; d; d + max(0, −u_d)/a if q ≥ 0; window end"; upper, "window start, else window end".
+-- The instants that the time rule tries. Lower: "window start; d; d + max(0, −u_d)/a if q ≥ 0; window end". Upper: "Window start, else window end".
 use mathlib.Core.Path.{_≡_}
+use mathlib.Core.Bool.{cond}
 use mathlib.Core.List.{List, [], _∷_, _++_}
 use mathlib.Core.Logic.{_⊎_}
 use Prim.Native.Nat.{ℕ, _+_, _*_}
-use lib.IntN.{ℤ, pos, negsuc, negℤ}
+use lib.IntN.{ℤ, negℤ}
+use lib.Signed.{nonNeg}
 use Rattle.integers.specs.Extremes.{max0}
 use Rattle.instant.specs.declared.Instant.{Instant}
 use Rattle.instant.specs.declared.Moment.{Moment}
@@ -21,21 +23,20 @@ abbrev pub Among : {A : Type 0} → A → List A → Type 0
 Among x [] = ⊥
 Among x (y ∷ l) = (x ≡ y) ⊎ Among x l
 
--- an instant or none, as a list
-abbrev pub listed : Moment → List Instant
-listed Never = []
-listed (At t) = t ∷ []
+-- an instant or none, as a list of one or none
+abbrev pub asList : Moment → List Instant
+asList Never = []
+asList (At t) = t ∷ []
 
--- The turning instant, d + max(0, −x)/a after a rule of strength a begun at d with speed x, if q ≥ 0: the path's lowest point after d
+-- The turning instant, where the path is lowest after d: "d + max(0, −u_d)/a if q ≥ 0". Target is q, strength is a, delay is d, speed is u_d.
 abbrev pub turningInstant : ℤ → ℕ → ℕ → ℤ → Moment
-turningInstant (pos q) a d x = At ((d * a + max0 (negℤ x)) ÷ a)
-turningInstant (negsuc q) a d x = Never
+turningInstant target strength delay speed = cond (nonNeg target) (At ((delay * strength + max0 (negℤ speed)) ÷ strength)) Never
 
 -- the instants of a path itself: of the lower, d and the turning instant
 abbrev pub pathInstants : Side → SensedQuestion → List Instant
-pathInstants Lower s = (d s ÷ 1) ∷ listed (turningInstant (q s) (a s) (d s) (u-d s))
+pathInstants Lower s = (d s ÷ 1) ∷ asList (turningInstant (q s) (a s) (d s) (u-d s))
 pathInstants Upper s = []
 
 -- all of them, in document 01's order
 abbrev pub instants : Side → SensedQuestion → List Instant
-instants side s = windowStart s ∷ (pathInstants side s ++ listed (windowEnd s))
+instants side s = windowStart s ∷ (pathInstants side s ++ asList (windowEnd s))

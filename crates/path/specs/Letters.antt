@@ -1,5 +1,8 @@
--- Document 01's letters for the fields of a sensed question. A grain is 1/60 foot; heights and distances are in grains, speeds in grains a second,
--- accelerations in grains a second squared, times in seconds. "Sensed" is w times the upward value: w is +1 for climb, -1 for descend.
+-- Document 01's letters for the fields of a sensed question s. A grain is 1/60 foot; heights and distances are in grains, speeds in grains a second,
+-- accelerations in grains a second squared, times in seconds.
+-- The frame of reference: "'Sensed height' is w times height, measured from a level that starts at the ownship and moves with the intruder's vertical speed",
+-- w being +1 for climb, −1 for descend. Seen from that level the intruder keeps its height w × h, and the ownship starts at height 0 with the speed
+-- u = w × (v − vi). So vi is in u and in q, and in no path.
 use Prim.Native.Nat.{ℕ}
 use lib.IntN.{ℤ}
 use Rattle.path.specs.declared.SensedQuestion.{SensedQuestion}

@@ -3,4 +3,4 @@ pub mod Paths
 pub mod Window
 pub mod Conflict
 pub mod Instants
-pub mod Sizes
+pub mod inner

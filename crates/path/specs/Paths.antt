@@ -1,5 +1,6 @@
--- The ownship's sensed heights (document 01, "Paths and conflict"). A time t is n/m seconds. "Each comparison at it is multiplied through by its divisors":
--- a height f at n/m stands as 2 × a × m² × f on the lower side, 2 × b × m² × j on the upper, which is whole.
+-- The ownship's sensed heights (document 01, "Paths and conflict"), from the level that moves with the intruder (`Letters`). A time t is n/m seconds.
+-- Since "each comparison at it is multiplied through by its divisors", a height f at n/m stands as 2 × a × m² × f on the lower side, 2 × b × m² × j on the
+-- upper, which is whole.
 use mathlib.Core.Bool.{cond}
 use Prim.Native.Nat.{ℕ, _*_, _-_}
 use lib.Dec.{leb, ltb}
@@ -8,35 +9,45 @@ use Rattle.integers.specs.Extremes.{max0, maxℤ}
 use Rattle.path.specs.declared.SensedQuestion.{SensedQuestion}
 use Rattle.path.specs.Letters.{u, q, a, d, e, upper-q, b}
 
--- The advice rule: the height gained s = n/m after it begins at speed x, with target q and strength a, times 2 × a × m².
--- "G = max(0, q − u_d): while s < G/a, u_d × s + a × s²/2; from then on q × s − G²/(2 × a)." Where x exceeds q, G is 0: the speed is q from the start.
+-- The advice rule: the height gained n/m seconds after it begins, times 2 × strength × m². Lower, strength is a, target is q, speed is u_d, and
+-- n/m is s = t − d: "G = max(0, q − u_d): while s < G/a, f = f_d + u_d × s + a × s²/2; from then on f = f_d + q × s − G²/(2 × a)", here without f_d. Where
+-- speed exceeds target, G is 0: the speed is target from the start.
 unfoldable pub adviceGain : ℕ → ℤ → ℤ → ℕ → ℕ → ℤ
-adviceGain a q x n m =
-    let G = max0 (q -ℤ x) in
-    cond (ltb (a * n) (G * m))
-    (pos a *ℤ (pos 2 *ℤ x *ℤ pos n *ℤ pos m +ℤ pos a *ℤ pos n *ℤ pos n))
-    (pos 2 *ℤ pos a *ℤ q *ℤ pos n *ℤ pos m -ℤ pos G *ℤ pos G *ℤ pos m *ℤ pos m)
+adviceGain strength target speed n m =
+    let G = max0 (target -ℤ speed) in
+    cond (ltb (strength * n) (G * m))
+    (pos strength *ℤ (pos 2 *ℤ speed *ℤ pos n *ℤ pos m +ℤ pos strength *ℤ pos n *ℤ pos n))
+    (pos 2 *ℤ pos strength *ℤ target *ℤ pos n *ℤ pos m -ℤ pos G *ℤ pos G *ℤ pos m *ℤ pos m)
 
--- The delay: u × t − e × t²/2, times 2 × m². It curves away from the advice.
+-- The delay: "f = u × t − e × t²/2", times 2 × m²; acceleration is e, speed is u. It curves away from the advice.
 unfoldable pub delayHeight : ℕ → ℤ → ℕ → ℕ → ℤ
-delayHeight e u n m = pos 2 *ℤ u *ℤ pos n *ℤ pos m -ℤ pos e *ℤ pos n *ℤ pos n
+delayHeight acceleration speed n m = pos 2 *ℤ speed *ℤ pos n *ℤ pos m -ℤ pos acceleration *ℤ pos n *ℤ pos n
 
--- A path that is f up to the second d, and from then on f's height at d and the gain g since; i and j bring the two to one scale.
+-- A path of two parts: up to the second `end`, the height that `before` gives; then its height at `end` and what `after` adds in the time since. Each part
+-- comes on a scale of its own, and is multiplied by the number before it to bring both to one scale.
 unfoldable pub continued : ℕ → (ℕ → ℕ → ℤ) → ℕ → ℕ → (ℕ → ℕ → ℤ) → ℕ → ℕ → ℤ
-continued i f d j g n m = cond (leb n (d * m)) (pos i *ℤ f n m) (pos i *ℤ f (d * m) m +ℤ pos j *ℤ g (n - d * m) m)
+continued times-before before end times-after after n m =
+    cond (leb n (end * m))
+    (pos times-before *ℤ before n m)
+    (pos times-before *ℤ before (end * m) m +ℤ pos times-after *ℤ after (n - end * m) m)
 
--- "Speed there is u_d = u − e × d."
+-- the speed at d: "speed there is u_d = u − e × d"
 abbrev pub u-d : SensedQuestion → ℤ
-u-d s = u s -ℤ pos (e s) *ℤ pos (d s)
+u-d question = u question -ℤ pos (e question) *ℤ pos (d question)
 
--- The lower path f: the delay up to d, then the advice rule from the height f_d and the speed u_d
+-- The lower path f: the delay up to d, then the advice rule from the height f_d and the speed u_d. The delay stands times 2 × m² and is multiplied by a; the
+-- rule's gain stands times 2 × a × m² already and is multiplied by 1.
 abbrev pub lowerPath : SensedQuestion → ℕ → ℕ → ℤ
-lowerPath s = continued (a s) (delayHeight (e s) (u s)) (d s) 1 (adviceGain (a s) (q s) (u-d s))
+lowerPath question =
+    continued
+    (a question) (delayHeight (e question) (u question))
+    (d question)
+    1 (adviceGain (a question) (q question) (u-d question))
 
--- "With max(w × (upper target − vi), u) for q."
+-- "with max(w × (upper target − vi), u) for q"
 abbrev pub upperTarget : SensedQuestion → ℤ
-upperTarget s = maxℤ (upper-q s) (u s)
+upperTarget question = maxℤ (upper-q question) (u question)
 
 -- The upper path j: "the same rule from t = 0 with b for a"
 abbrev pub upperPath : SensedQuestion → ℕ → ℕ → ℤ
-upperPath s = adviceGain (b s) (upperTarget s) (u s)
+upperPath question = adviceGain (b question) (upperTarget question) (u question)

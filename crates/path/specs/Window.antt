@@ -1,7 +1,5 @@
--- The window: "every rational t ≥ 0, up to the limit if one is set, with |r − c × t| ≤ p", and its two ends.
-use mathlib.Core.Bool.{Bool, true, cond, _&&_}
+-- "The window is every rational t ≥ 0, up to the limit if one is set, with |r − c × t| ≤ p"; and its two ends. s is a sensed question.
 use Prim.Native.Nat.{ℕ, zero, suc, _*_, _≤_}
-use lib.Dec.{leb}
 use lib.IntN.{ℤ, pos, _+ℤ_, _-ℤ_, _*ℤ_, natAbs}
 use Rattle.integers.specs.Extremes.{max0}
 use Rattle.instant.specs.declared.Instant.{Instant}
@@ -27,14 +25,6 @@ pub record Window (s : SensedQuestion) (n m : ℕ) : Type 0 where
   pub near : natAbs (distanceAt s n m) ≤ p s * m
   pub intime : InTime (s .limit) n m
 
--- the same as tests
-abbrev pub inTime : Limit → ℕ → ℕ → Bool
-inTime Unlimited n m = true
-inTime (Upto L) n m = leb n (L * m)
-
-unfoldable pub inWindow : SensedQuestion → ℕ → ℕ → Bool
-inWindow s n m = leb (natAbs (distanceAt s n m)) (p s * m) && inTime (s .limit) n m
-
 -- The window starts at max(0, (r − p)/c), or at 0 where c = 0.
 abbrev pub startOf : ℕ → ℤ → ℕ → Instant
 startOf zero r p = 0 ÷ 1
@@ -56,8 +46,3 @@ endOf (suc c) r p (Upto L) = At (earlier (exitOf (suc c) r p) (L ÷ 1))
 
 abbrev pub windowEnd : SensedQuestion → Moment
 windowEnd s = endOf (c s) (r s) (p s) (s .limit)
-
--- The window's first time: its start, or none where the window does not hold it, as then it is empty.
-unfoldable pub opening : SensedQuestion → Moment
-unfolding inWindow
-opening s = cond (inWindow s (windowStart s .n) (windowStart s .m)) (At (windowStart s)) Never

@@ -11,17 +11,17 @@ use Rattle.limits.specs.Limits.{maxStrength, maxDelayAcceleration, maxDelay}
 use Rattle.integers.specs.Extremes.{max0}
 use Rattle.integers.proofs.Machine.{Reading, bounded-natural, bounded-word, bounded-absolute}
 use Rattle.instant.specs.declared.Instant.{Instant}
-use Rattle.instant.specs.Order.{Sized}
+use Rattle.instant.specs.inner.Sizes.{SizedInstant}
 use Rattle.path.specs.declared.SensedQuestion.{SensedQuestion}
 use Rattle.path.specs.Letters.{u, q, a, d, e}
 use Rattle.path.specs.Paths.{delayHeight, u-d}
-use Rattle.path.specs.Sizes.{maxSpeedAfterDelay, Sizes}
+use Rattle.path.specs.inner.Sizes.{maxSpeedAfterDelay, Sizes}
 use Rattle.window.proofs.Fields.{size}
-use Rattle.conflict.specs.RuleSizes.{mostStart}
+use Rattle.conflict.specs.inner.RuleSizes.{mostStart}
 use Rattle.conflict.proofs.Fields.{start-size, after-delay-size, numbers}
 use Rattle.pieces.specs.declared.WholePiece.{WholePiece}
 use Rattle.pieces.specs.Pieces.{heightAfterDelay, missingSpeed, delayPiece, arcPiece, lastPiece, hasBegun, pieceAt}
-use Rattle.pieces.specs.PieceSizes.{mostHeightAfterDelay, mostGap, PieceSizes}
+use Rattle.pieces.specs.inner.PieceSizes.{mostHeightAfterDelay, mostGap, PieceSizes}
 
 max0-size : (z : ℤ) → max0 z ≤ natAbs z
 max0-size (pos n) = omega arith
@@ -106,10 +106,10 @@ module _ (s : SensedQuestion) (z : Sizes s) where
 
 -- ---- their times
 module _ (s : SensedQuestion) (z : Sizes s) where
-  pub arc-from-sized : Sized (arcPiece s .from)
+  pub arc-from-sized : SizedInstant (arcPiece s .from)
   arc-from-sized = record { n = omega (arith, z .d-hi); m = omega arith }
 
-  pub last-from-sized : Sized (lastPiece s .from)
+  pub last-from-sized : SizedInstant (lastPiece s .from)
   last-from-sized = record { n = omega (arith, mul-le-mul (z .d-hi) (z .a-hi), gap-size s z); m = omega (arith, z .a-hi) }
 
 -- a piece is its time and its three coefficients

@@ -1,4 +1,4 @@
 pub mod Pieces
-pub mod PieceSizes
 pub mod RightPieces
 pub mod Example
+pub mod inner

@@ -2,7 +2,7 @@
 ghost use mathlib.Core.Path.{_≡_};
 ghost use Prim.Native.Nat.{_≤_};
 ghost use Rattle.instant.specs.Order.{_÷_};
-ghost use Rattle.path.specs.Sizes.{Sizes};
+ghost use Rattle.path.specs.inner.Sizes.{Sizes};
 ghost use Rattle.pieces.specs.Pieces.{heightAfterDelay, missingSpeed, delayPiece, arcPiece, lastPiece, pieceAt, lastSecond};
 use conflict::speed_after_delay;
 use instant::Instant;

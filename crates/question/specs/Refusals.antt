@@ -19,7 +19,7 @@ use Rattle.question.specs.declared.Checked.the-variants.{Accepted, Refus
 abbrev pub isNumber : ℤ → ℤ → Bool
 isNumber n = within n n
 
--- "Sense 0 descend or 1 climb", "sides 1 or 2"
+-- "sense 0 descend or 1 climb", "sides 1 or 2"
 abbrev pub climbs : Question → Bool
 climbs z = isNumber (pos 1) (z .sense)
 

@@ -9,8 +9,16 @@ use lib.ListN.{length}
 use Rattle.question.specs.declared.Checked.{Checked}
 use Rattle.record.specs.declared.Kind.{Kind}
 use Rattle.record.specs.Kinds.{kindOf, bodyLength, known}
-use Rattle.record.specs.Records.{kindsAfter, kinds}
 use Rattle.record.specs.SheetCheck.{faultAfter, sheetCheck}
+
+-- the kinds of a sheet's records, where so many bytes of a body are left to pass over first
+unfoldable pub kindsAfter : ℕ → List ℕ → List Kind
+kindsAfter left [] = []
+kindsAfter (suc left) (byte ∷ rest) = kindsAfter left rest
+kindsAfter zero (kind ∷ rest) = kindOf kind ∷ kindsAfter (bodyLength (kindOf kind)) rest
+
+abbrev pub kinds : List ℕ → List Kind
+kinds = kindsAfter 0
 
 head-same : {a b : Kind} {l m : List Kind} → (a ∷ l) ≡ (b ∷ m) → a ≡ b
 head-same e = cc

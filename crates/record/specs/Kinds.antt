@@ -5,7 +5,7 @@ use lib.Dec.{eqb}
 use Rattle.record.specs.declared.Kind.{Kind}
 use Rattle.record.specs.declared.Kind.the-variants.{Encounter, Puck, DelayAcceleration, Coded, Free, Unknown}
 
--- "Kind 1, encounter"; "kind 2, puck"; "kind 3, delay acceleration"; "kind 4, coded question"; "kind 5, free question"
+-- "Kind 1, encounter"; "Kind 2, puck"; "Kind 3, delay acceleration"; "Kind 4, coded question"; "Kind 5, free question"
 abbrev pub kindOf : ℕ → Kind
 kindOf byte =
     cond (eqb byte 1) Encounter

@@ -111,10 +111,7 @@ fn times_within(question: Question) -> bool
     if !limit_allowed(question) {
         return false;
     }
-    if two_sided(question) {
-        return no_delay(question);
-    }
-    true
+    !two_sided(question) | no_delay(question)
 }
 
 // Refusals 1 to 6 in rising order.

@@ -6,7 +6,8 @@ use Prim.Native.Nat.{ℕ}
 use lib.IntN.{ℤ, pos, negℤ}
 use Rattle.path.specs.declared.Limit.the-variants.{Unlimited}
 use Rattle.path.specs.declared.SensedQuestion.{SensedQuestion}
-use Rattle.region.specs.Formula.{Formula, holds}
+use Rattle.region.specs.Formula.{Formula}
+use Rattle.region.specs.inner.Holds.{holds}
 use Rattle.region.specs.Regions.{L-expl, D-expl}
 
 pub record Example : Type 0 where

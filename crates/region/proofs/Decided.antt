@@ -6,7 +6,8 @@ use lib.Dec.{T}
 use lib.Ieee.Fits.{and-i, and-l, and-r}
 use lib.Signed.{leZ, leZ-yes, ltZ-yes}
 use Rattle.integers.proofs.Laws.{≤ℤ-antisym, ≤ℤ-of-≡}
-use Rattle.region.specs.Formula.{Formula, _at-most_, _less-than_, _equals_, _and_, _or_, _implies_, Says, holds}
+use Rattle.region.specs.Formula.{Formula, _at-most_, _less-than_, _equals_, _and_, _or_, _implies_, Says}
+use Rattle.region.specs.inner.Holds.{holds}
 
 or-test : (a b : Bool) → T (a || b) ↔ (T a ⊎ T b)
 or-test true b = (λ t. inl t, λ h. tt)

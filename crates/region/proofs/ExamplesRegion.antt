@@ -8,7 +8,7 @@ use Rattle.advisory.specs.Advised.{advisedOf}
 use Rattle.sensed.specs.Sensed.{sensedQuestion}
 use Rattle.judge.specs.Examples.{Example, examples}
 use Rattle.region.specs.Regions.{L-expl, D-expl}
-use Rattle.region.specs.RegionExamples.{delayedAllowed, immediateAllowed, examplesWith, inRegion, isClear}
+use Rattle.region.specs.inner.RegionExamples.{delayedAllowed, immediateAllowed, examplesWith, inRegion, isClear}
 
 -- Figure 5
 pub delayed-examples : map (inRegion D-expl) (examplesWith delayedAllowed) ≡ map isClear (examplesWith delayedAllowed)

@@ -21,11 +21,12 @@ use Rattle.path.specs.Letters.{r, c, p, k, wh, u, q, a, d, e}
 use Rattle.path.specs.Paths.{adviceGain, delayHeight, u-d, lowerPath}
 use Rattle.path.specs.Window.{InTime, Window}
 use Rattle.path.specs.Conflict.{lowerEdge, Conflict, ConflictExists}
-use Rattle.path.specs.Sizes.{Sizes}
+use Rattle.path.specs.inner.Sizes.{Sizes}
 use Rattle.path.proofs.AdviceRule.{gain-zero}
 use Rattle.path.proofs.Continued.{continued-before, continued-after}
 use Rattle.path.proofs.WindowEnds.{window-from, window-till, window-by}
-use Rattle.region.specs.Formula.{Says, holds, _²}
+use Rattle.region.specs.Formula.{Says, _²}
+use Rattle.region.specs.inner.Holds.{holds}
 use Rattle.region.specs.Regions.{L-expl, D-expl}
 use Rattle.region.proofs.Decided.{decides}
 use Rattle.region.proofs.Corners.{same-sign, Beyond, Clear, Within}

@@ -20,8 +20,9 @@ use Rattle.advisory.specs.declared.Sense.the-variants.{Climb, Descend}
 use Rattle.advisory.specs.declared.Instruction.{Instruction}
 use Rattle.advisory.specs.declared.Advised.{Advised}
 use Rattle.advisory.specs.Sign.{sensed}
-use Rattle.advisory.specs.Catalogue.{rateOf, Within}
-use Rattle.advisory.specs.Advised.{advisedOf, instructionIn, InLimits, Standing}
+use Rattle.advisory.specs.Catalogue.{rateOf, CodeWithin}
+use Rattle.advisory.specs.Advised.{advisedOf, instructionIn}
+use Rattle.advisory.specs.inner.Codes.{InLimits, Standing}
 use Rattle.advisory.proofs.CodeRanges.{standing}
 use Rattle.advisory.proofs.Limits.{in-limits}
 use Rattle.advisory.proofs.TablesAgree.{advised-is-table-1}
@@ -51,7 +52,8 @@ use Rattle.judge.proofs.Demand3.{judged, one-sided}
 use Rattle.region.specs.Formula.{Formula, Says}
 use Rattle.region.specs.Figure5.{D-explᵈ}
 use Rattle.region.specs.Regions.{L-expl, D-expl}
-use Rattle.region.specs.JudgedRegion.{clearVerdict, clearAnswer, clearRecord, ClearExactly, advisoryRegion, CodeClearExactly}
+use Rattle.region.specs.JudgedRegion.{clearRecord, advisoryRegion}
+use Rattle.region.specs.inner.ClearExactly.{clearVerdict, clearAnswer, ClearExactly, CodeClearExactly}
 use Rattle.region.proofs.RegionTheorem.{immediate-region, delayed-region}
 
 -- ---- clear is one verdict, one answer and one record
@@ -184,7 +186,7 @@ module _ (x : Encounter) (y : Settings) (encounter : encounterWithin x ≡ true)
       }
 
   -- every one of the sixteen codes
-  pub sixteen-codes : (code : ℕ) → Within 1 16 code → CodeClearExactly x y code
+  pub sixteen-codes : (code : ℕ) → CodeWithin 1 16 code → CodeClearExactly x y code
   sixteen-codes code range = go (advisedOf code) refl (standing code byte)
     where
       byte : code < 256

@@ -1,9 +1,8 @@
--- A formula about whole numbers, written once and read in two ways: what it says, for theorems, and whether it holds, for computing.
+-- A formula about whole numbers, and what it says.
 use mathlib.Core.Path.{_≡_}
-use mathlib.Core.Bool.{Bool, not, _&&_, _||_}
 use mathlib.Core.Logic.{_⊎_}
 use lib.IntN.{ℤ, _*ℤ_}
-use lib.Signed.{_≤ℤ_, _<ℤ_, leZ, ltZ}
+use lib.Signed.{_≤ℤ_, _<ℤ_}
 
 -- Comparisons bind tighter than `and` and `or`, and these tighter than `implies`; where `and` and `or` meet, brackets stand.
 infix 3 _at-most_ _less-than_ _equals_ _at-least_ _more-than_
@@ -28,15 +27,6 @@ Says (x equals y) = x ≡ y
 Says (f and g) = Says f × Says g
 Says (f or g) = Says f ⊎ Says g
 Says (f implies g) = Says f → Says g
-
--- whether it holds: the same as a test
-abbrev pub holds : Formula → Bool
-holds (x at-most y) = leZ x y
-holds (x less-than y) = ltZ x y
-holds (x equals y) = leZ x y && leZ y x
-holds (f and g) = holds f && holds g
-holds (f or g) = holds f || holds g
-holds (f implies g) = not (holds f) || holds g
 
 -- x squared
 infix 8 _²

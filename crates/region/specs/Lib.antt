@@ -3,4 +3,4 @@ pub mod Figure3
 pub mod Figure5
 pub mod Regions
 pub mod JudgedRegion
-pub mod RegionExamples
+pub mod inner

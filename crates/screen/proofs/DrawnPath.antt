@@ -12,7 +12,7 @@ use Rattle.instant.specs.Order.{_÷_}
 use Rattle.path.specs.declared.SensedQuestion.{SensedQuestion}
 use Rattle.path.specs.Letters.{d}
 use Rattle.path.specs.Paths.{lowerPath}
-use Rattle.path.specs.Sizes.{Sizes}
+use Rattle.path.specs.inner.Sizes.{Sizes}
 use Rattle.question.specs.declared.Encounter.{Encounter}
 use Rattle.question.specs.declared.Settings.{Settings}
 use Rattle.question.specs.declared.Question.{Question}
@@ -22,7 +22,7 @@ use Rattle.sensed.specs.Sensed.{sensedQuestion}
 use Rattle.sensed.proofs.AcceptedSizes.{accepted-sizes}
 use Rattle.pieces.specs.declared.WholePiece.{WholePiece}
 use Rattle.pieces.specs.Pieces.{missingSpeed, delayPiece, arcPiece, lastPiece, unless, pieces, pieceAt, lastSecond, pieceHeight}
-use Rattle.pieces.specs.PieceSizes.{mostSquare, mostLinear, mostConstant, PieceSizes}
+use Rattle.pieces.specs.inner.PieceSizes.{mostSquare, mostLinear, mostConstant, PieceSizes}
 use Rattle.pieces.proofs.Fields.{delay-sizes, arc-sizes, last-sizes, piece-at-sizes}
 use Rattle.pieces.proofs.PathPieces.{held-follows, right-pieces}
 use Rattle.screen.specs.declared.Piece.{Piece}

@@ -18,7 +18,7 @@ use Rattle.question.proofs.WithinLimits.{between}
 use Rattle.window.proofs.Fields.{size}
 use Rattle.pieces.specs.declared.WholePiece.{WholePiece}
 use Rattle.pieces.specs.Pieces.{lastSecond, pieceHeight}
-use Rattle.pieces.specs.PieceSizes.{mostSquare, mostLinear, mostConstant, PieceSizes}
+use Rattle.pieces.specs.inner.PieceSizes.{mostSquare, mostLinear, mostConstant, PieceSizes}
 use Rattle.screen.specs.declared.Piece.{Piece}
 use Rattle.screen.specs.Floats.{float, Exactly}
 use Rattle.screen.specs.Drawings.{floatPiece}

@@ -12,7 +12,7 @@ use mir.Facts.{toZ-ofZ}
 use Rattle.integers.proofs.Machine.{bounded-absolute, fits}
 use Rattle.question.specs.Refusals.{isNumber}
 use Rattle.pieces.specs.declared.WholePiece.{WholePiece}
-use Rattle.pieces.specs.PieceSizes.{mostConstant, PieceSizes}
+use Rattle.pieces.specs.inner.PieceSizes.{mostConstant, PieceSizes}
 use Rattle.screen.proofs.WholeFloats.{cast-exact}
 use Rattle.screen.proofs.Evaluation.{number-zero}
 

@@ -1,9 +1,9 @@
 // The path on the screen: the pieces of the lower path with 64-bit floats, and the point of each whole second. `specs/` says what they are.
 ghost use mathlib.Core.Path.{_≡_};
 ghost use Prim.Native.Nat.{_≤_};
-ghost use Rattle.path.specs.Sizes.{Sizes};
+ghost use Rattle.path.specs.inner.Sizes.{Sizes};
 ghost use Rattle.pieces.specs.Pieces.{lastSecond};
-ghost use Rattle.pieces.specs.PieceSizes.{PieceSizes};
+ghost use Rattle.pieces.specs.inner.PieceSizes.{PieceSizes};
 ghost use Rattle.screen.specs.Drawings.{floatPiece, drawnPiece, content, drawn, drawnPieces, screenDrawing};
 ghost use Rattle.screen.specs.Points.{evaluated, pointAt, pointRefusal, screenPoint};
 use instant::Time;

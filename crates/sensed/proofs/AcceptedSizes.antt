@@ -7,7 +7,7 @@ use Prim.Native.Nat.{ℕ, _≤_}
 use lib.Dec.{T}
 use lib.Ieee.Fits.{and-l, and-r}
 use lib.IntN.{ℤ, pos, negℤ, _-ℤ_}
-use lib.Signed.{_≤ℤ_, leZ}
+use lib.Signed.{_≤ℤ_}
 use Rattle.limits.specs.Limits.{maxHeight, maxClosingSpeed, maxSpeed, maxRadius, maxHalfHeight, minStrength, maxStrength, strengthWithin, maxDelayAcceleration, targetWithin, maxDelay, maxLimit, limitWithin, noLimit}
 use Rattle.integers.specs.Extremes.{max0}
 use Rattle.integers.proofs.Quotation.{quote}
@@ -17,7 +17,7 @@ use Rattle.advisory.specs.declared.Sense.{Sense}
 use Rattle.advisory.specs.declared.Sense.the-variants.{Climb, Descend}
 use Rattle.advisory.specs.Sign.{sensed}
 use Rattle.path.specs.declared.Limit.the-variants.{Unlimited, Upto}
-use Rattle.path.specs.Sizes.{LimitSize, maxSpeedDifference, Sizes, UpperSizes}
+use Rattle.path.specs.inner.Sizes.{LimitSize, maxSpeedDifference, Sizes, UpperSizes}
 use Rattle.question.specs.declared.Encounter.{Encounter}
 use Rattle.question.specs.declared.Settings.{Settings}
 use Rattle.question.specs.declared.Question.{Question}
@@ -53,13 +53,13 @@ at-least : (k : ℕ) (z : ℤ) → pos k ≤ℤ z → k ≤ max0 z
 at-least k z h = nat≤ {m = k} {n = max0 z} (≤ℤ-trans h (max0-ge z))
 
 limit-size : (l : ℤ) → T (limitWithin l || isNumber noLimit l) → LimitSize (limitOf l)
-limit-size l t = go (leZ noLimit l) refl
+limit-size l t = go (isNumber noLimit l) refl
   where
-    go : (b : Bool) → leZ noLimit l ≡ b → LimitSize (cond b Unlimited (Upto (max0 l)))
+    go : (b : Bool) → isNumber noLimit l ≡ b → LimitSize (cond b Unlimited (Upto (max0 l)))
     go true e = tt
     go false e = ⊎-elim
         (λ h. max0-le l maxLimit (between (pos 0) (pos maxLimit) l h .to))
-        (λ h. absurd (subst T e (between noLimit noLimit l h .from .le)))
+        (λ h. absurd (subst T e h))
         (or-else (limitWithin l) (isNumber noLimit l) t)
 
 module _ (x : Encounter) (y : Settings) (z : Question) (e : refusal x y z ≡ Checked.Accepted) where

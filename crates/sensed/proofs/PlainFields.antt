@@ -12,7 +12,7 @@ use Rattle.integers.proofs.Machine.{Reading, bounded, bounded-non-negative, fit
 use Rattle.integers.specs.Extremes.{max0}
 use Rattle.integers.proofs.Laws.{≤ℤ-trans}
 use Rattle.advisory.specs.Sign.{sensed}
-use Rattle.path.specs.Sizes.{maxSpeedDifference}
+use Rattle.path.specs.inner.Sizes.{maxSpeedDifference}
 use Rattle.question.specs.declared.Encounter.{Encounter}
 use Rattle.question.specs.declared.Settings.{Settings}
 use Rattle.question.specs.declared.Question.{Question}

@@ -1,7 +1,6 @@
 -- A question of plain numbers as a sensed question: "Write u = w × (v − vi), q = w × (target − vi)"; the intruder's height is w × h.
 use mathlib.Core.Bool.{cond}
 use lib.IntN.{ℤ, _-ℤ_}
-use lib.Signed.{leZ}
 use Rattle.limits.specs.Limits.{noLimit}
 use Rattle.integers.specs.Extremes.{max0}
 use Rattle.advisory.specs.Sign.{sensed}
@@ -12,11 +11,11 @@ use Rattle.question.specs.declared.Encounter.{Encounter}
 use Rattle.question.specs.declared.Settings.{Settings}
 use Rattle.question.specs.declared.Question.{Question}
 use Rattle.sensed.specs.declared.Motion.{Motion}
-use Rattle.question.specs.Refusals.{senseOf}
+use Rattle.question.specs.Refusals.{isNumber, senseOf}
 
--- "Limit 65,535 means none."
+-- "Limit 65,535 means none"; every other number is the limit itself
 abbrev pub limitOf : ℤ → Limit
-limitOf l = cond (leZ noLimit l) Unlimited (Upto (max0 l))
+limitOf l = cond (isNumber noLimit l) Unlimited (Upto (max0 l))
 
 -- w × h, u, q, and w × (upper target − vi)
 abbrev pub sensedMotion : Encounter → Question → Motion

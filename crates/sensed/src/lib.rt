@@ -1,8 +1,6 @@
 // An accepted question in its sense. `specs/` says what that is.
 ghost use mathlib.Core.Path.{_≡_};
-ghost use Prim.Native.Nat.{_<_, _^_};
-ghost use lib.IntN.{natAbs};
-ghost use Rattle.advisory.specs.Sign.{sensed};
+ghost use Rattle.advisory.specs.Sign.{sign};
 ghost use Rattle.question.specs.declared.Checked.the-variants.{Accepted};
 ghost use Rattle.question.specs.Refusals.{refusal};
 ghost use Rattle.sensed.specs.Sensed.{limitOf, sensedMotion, sensedQuestion};
@@ -24,21 +22,20 @@ struct Motion {
     upper_target: i64,
 }
 
-// w × x.
-fn in_sense(sense: Sense, x: i64) -> i64
-    requires { ⌜ natAbs x < 2 ^ 63 ⌝ }
-    ensures { λ r. ⌜ r ≡ sensed sense x ⌝ }
+// w: +1 for climb, −1 for descend.
+fn sign_of(sense: Sense) -> i64
+    ensures { λ w. ⌜ w ≡ sign sense ⌝ }
 {
     match sense {
-        Sense::Climb => x,
-        Sense::Descend => -x,
+        Sense::Climb => 1,
+        Sense::Descend => -1,
     }
 }
 
 fn limit_of(limit: i64) -> Limit
     ensures { λ r. ⌜ r ≡ limitOf limit ⌝ }
 {
-    if NO_LIMIT <= limit {
+    if (NO_LIMIT <= limit) & (limit <= NO_LIMIT) {
         return Limit::Unlimited;
     }
     Limit::Upto(positive_part(limit))
@@ -54,12 +51,12 @@ fn sensed_motion(encounter: Encounter, settings: Settings, question: Question) -
     let intruder = encounter.intruder_speed;
     let target = question.target;
     let upper = question.upper_target;
-    let sense = sense_of(question);
+    let w = sign_of(sense_of(question));
     Motion {
-        level: in_sense(sense, height),
-        speed: in_sense(sense, own - intruder),
-        target: in_sense(sense, target - intruder),
-        upper_target: in_sense(sense, upper - intruder),
+        level: w * height,
+        speed: w * (own - intruder),
+        target: w * (target - intruder),
+        upper_target: w * (upper - intruder),
     }
 }
 

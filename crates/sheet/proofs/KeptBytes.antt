@@ -7,7 +7,7 @@ use native.Mathlib.Omega.{arith}
 use lib.ListN.{length}
 use lib.Seq.{sets}
 use Rattle.reply.proofs.Writing.{sets-append}
-use Rattle.sheet.specs.Kept.{kept, needed}
+use Rattle.sheet.specs.inner.Kept.{kept, needed}
 
 pub kept-append : (writing : Bool) (area : List ℕ) (at : ℕ) (xs ys : List ℕ) → sets area at (kept writing (xs ++ ys)) ≡ sets (sets area at (kept writing xs)) (at + length xs) (kept writing ys)
 kept-append true area at xs ys = sets-append area at xs ys

@@ -1,3 +1,3 @@
 pub mod WholeSheet
 pub mod Example
-pub mod Kept
+pub mod inner

@@ -34,7 +34,7 @@ outcomeFor Checked.Accepted needed room = cond (leb needed room) (Accepted neede
 abbrev pub outcome : List ℕ → ℕ → Outcome
 outcome sheet room = outcomeFor (sheetCheck sheet) (length (sheetAnswer sheet)) room
 
--- "No byte changed"; else the answer, and "bytes past the answer keep their values"
+-- refused: "no byte changed"; else the answer, and "Bytes past the answer keep their values."
 abbrev pub areaFor : Outcome → List ℕ → List ℕ → List ℕ
 areaFor (Refused number) answer area = area
 areaFor (Accepted written) answer area = answer ++ drop written area

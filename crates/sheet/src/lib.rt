@@ -8,7 +8,7 @@ ghost use Rattle.question.specs.declared.Checked.the-variants.{Accepted};
 ghost use Rattle.record.specs.SheetCheck.{sheetCheck};
 ghost use Rattle.reply.specs.AnswerBytes.{replyBytes};
 ghost use Rattle.sheet.specs.WholeSheet.{sheetAnswer, outcome, areaAfter, outcomeRecord};
-ghost use Rattle.sheet.specs.Kept.{kept, needed};
+ghost use Rattle.sheet.specs.inner.Kept.{kept, needed};
 use answering::reply_to;
 use answering::starting_state;
 use answering::state_after;

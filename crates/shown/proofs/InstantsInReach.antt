@@ -16,14 +16,14 @@ use Rattle.instant.specs.declared.Instant.{Instant}
 use Rattle.instant.specs.declared.Moment.{Moment}
 use Rattle.instant.specs.declared.Moment.the-variants.{At}
 use Rattle.instant.specs.Order.{_÷_}
-use Rattle.instant.specs.Order as order
+use Rattle.instant.specs.inner.Sizes.{SizedInstant}
 use Rattle.path.specs.declared.SensedQuestion.{SensedQuestion}
 use Rattle.path.specs.declared.Side.{Side}
 use Rattle.path.specs.declared.Side.the-variants.{Lower, Upper}
 use Rattle.path.specs.Paths.{u-d}
 use Rattle.path.specs.Window.{windowEnd}
-use Rattle.path.specs.Instants.{Among, listed, turningInstant, pathInstants, instants}
-use Rattle.path.specs.Sizes.{maxSpeedAfterDelay, Sizes, Sized, farthest, InReach, searchEnd}
+use Rattle.path.specs.Instants.{Among, asList, turningInstant, pathInstants, instants}
+use Rattle.path.specs.inner.Sizes.{maxSpeedAfterDelay, Sizes, Sized, farthest, InReach, searchEnd}
 use Rattle.path.proofs.Membership.{among-one, among-either}
 use Rattle.path.proofs.WindowEnds.{endless-start}
 use Rattle.path.proofs.SideSizes.{sizes-of}
@@ -50,12 +50,12 @@ module _ (s : SensedQuestion) (z : Sizes s) where
     m-hi = omega (arith, z .a-hi);
   }
 
-pub turnings-near : (s : SensedQuestion) → Sizes s → (q : ℤ) (t : Instant) → Among t (listed (turningInstant q (s .strength) (s .delay) (u-d s))) → Near t
+pub turnings-near : (s : SensedQuestion) → Sizes s → (q : ℤ) (t : Instant) → Among t (asList (turningInstant q (s .strength) (s .delay) (u-d s))) → Near t
 turnings-near s z (pos q) t i = among-one Near (s .delay * s .strength + max0 (negℤ (u-d s)) ÷ s .strength) t (turning-near s z) i
 turnings-near s z (negsuc q) t i = absurd i
 
 pub turning-reach : (s : SensedQuestion) → Sizes s → (t : Instant) → turningInstant (s .target) (s .strength) (s .delay) (u-d s) ≡ At t → Near t
-turning-reach s z t e = turnings-near s z (s .target) t (subst (λ (m : Moment). Among t (listed m)) (sym e) (inl refl))
+turning-reach s z t e = turnings-near s z (s .target) t (subst (λ (m : Moment). Among t (asList m)) (sym e) (inl refl))
 
 path-near : (side : Side) (s : SensedQuestion) → Sizes s → (t : Instant) → Among t (pathInstants side s) → Near t
 path-near Lower s z t (inl e) = subst Near (sym e) (delay-near s z)
@@ -64,11 +64,11 @@ path-near Upper s z t i = absurd i
 
 pub instants-near : (side : Side) (s : SensedQuestion) → Sizes s → (t : Instant) → Among t (instants side s) → Near t
 instants-near side s z t (inl e) = subst Near (sym e) (windowStart-near s z)
-instants-near side s z t (inr i) = ⊎-elim (path-near side s z t) (windowEnd-near s z t) (among-either t (pathInstants side s) (listed (windowEnd s)) i)
+instants-near side s z t (inr i) = ⊎-elim (path-near side s z t) (windowEnd-near s z t) (among-either t (pathInstants side s) (asList (windowEnd s)) i)
 
 -- ---- the window's end, in the reach of its side
 pub end-reach : (side : Side) (s : SensedQuestion) → Sized side s → (t : Instant) → windowEnd s ≡ At t → InReach side (t .n) (t .m)
-end-reach side s z t e = side-reach side (windowEnd-near s (sizes-of side s z) t (subst (λ (m : Moment). Among t (listed m)) (sym e) (inl refl)))
+end-reach side s z t e = side-reach side (windowEnd-near s (sizes-of side s z) t (subst (λ (m : Moment). Among t (asList m)) (sym e) (inl refl)))
 
 -- ---- the whole second that a search finds
 last-small : (side : Side) (s : SensedQuestion) → Sized side s → searchEnd side s ≤ farthest Upper
@@ -76,7 +76,7 @@ last-small Lower s z = omega (arith, z .d-hi)
 last-small Upper s z = omega arith
 
 -- ---- a moment that the rule picks
-pub picked-sized : (side : Side) (s : SensedQuestion) → Sized side s → (t : Instant) → Picks side s (At t) → order.Sized t
+pub picked-sized : (side : Side) (s : SensedQuestion) → Sized side s → (t : Instant) → Picks side s (At t) → SizedInstant t
 picked-sized side s z t (inl e) = near-sized t (instants-near side s (sizes-of side s z) t (e .among))
 picked-sized side s z t (inr f) = ⊎-elim
     (λ (l : t .n ≤ searchEnd side s). let m = f .whole in record { n = omega (arith, last-small side s z); m = omega arith })

@@ -20,10 +20,11 @@ use Rattle.path.specs.declared.SensedQuestion.{SensedQuestion}
 use Rattle.path.specs.declared.Side.{Side}
 use Rattle.path.specs.declared.Side.the-variants.{Lower}
 use Rattle.path.specs.Paths.{u-d, lowerPath}
-use Rattle.path.specs.Window.{Window, inWindow, windowStart, windowEnd, opening}
-use Rattle.path.specs.Conflict.{lowerEdge, NotBeyond, notBeyond, Conflict, inConflict}
-use Rattle.path.specs.Instants.{Among, listed, turningInstant, pathInstants, instants}
-use Rattle.path.specs.Sizes.{Sizes, Sized}
+use Rattle.path.specs.Window.{Window, windowStart, windowEnd}
+use Rattle.path.specs.inner.Tests.{inWindow, opening, notBeyond, inConflict}
+use Rattle.path.specs.Conflict.{lowerEdge, NotBeyond, Conflict}
+use Rattle.path.specs.Instants.{Among, asList, turningInstant, pathInstants, instants}
+use Rattle.path.specs.inner.Sizes.{Sizes, Sized}
 use Rattle.path.proofs.Membership.{among-one}
 use Rattle.path.proofs.Decisions.{window-decided, notBeyond-decided, conflict-decided}
 use Rattle.path.proofs.WindowEnds.{window-between, between-window, windowStart-divisor, windowEnd-divisor, endless-start-zero}
@@ -90,20 +91,20 @@ module _ (s : SensedQuestion) where
 
     pub end-in : (t : Instant) → windowEnd s ≡ At t → inWindow s (t .n) (t .m) ≡ true
     end-in t e =
-        let i : Among t (listed (windowEnd s)) = subst (λ (m : Moment). Among t (listed m)) (sym e) (inl refl) in
+        let i : Among t (asList (windowEnd s)) = subst (λ (m : Moment). Among t (asList m)) (sym e) (inl refl) in
         true-of (inWindow s (t .n) (t .m)) (window-decided s (t .n) (t .m) .1
         (between-window s (windowStart s .n) (windowStart s .m) (t .n) (t .m) (windowStart-divisor s) start-window (record {
           after = window-between s (windowStart s .n) (windowStart s .m) start-window .before t i;
-          before = λ x j. among-one (λ y. t ≼ y) t x (≼-refl t) (subst (λ (m : Moment). Among x (listed m)) e j);
+          before = λ x j. among-one (λ y. t ≼ y) t x (≼-refl t) (subst (λ (m : Moment). Among x (asList m)) e j);
         })))
 
     pub zero-in : windowEnd s ≡ Never → inWindow s 0 1 ≡ true
     zero-in e = ap (λ (t : Instant). inWindow s (t .n) (t .m)) (sym (endless-start-zero s e)) ∙ o
 
     -- so at the end a conflict is the path's alone
-    pub end-shown : (side : Side) (t : Instant) → windowEnd s ≡ At t → shownAt side s t ≡ shownFrom side s (listed (windowEnd s))
+    pub end-shown : (side : Side) (t : Instant) → windowEnd s ≡ At t → shownAt side s t ≡ shownFrom side s (asList (windowEnd s))
     unfolding shownAt
-    end-shown side t e = go (notBeyond side s (t .n) (t .m)) refl ∙ ap (λ (m : Moment). shownFrom side s (listed m)) (sym e)
+    end-shown side t e = go (notBeyond side s (t .n) (t .m)) refl ∙ ap (λ (m : Moment). shownFrom side s (asList m)) (sym e)
       where
         go : (b : Bool) → notBeyond side s (t .n) (t .m) ≡ b → cond b (At t) Never ≡ shownFrom side s (t ∷ [])
         go true h = hit side s t [] (sym (inside side s (t .n) (t .m) (end-in t e)) ∙ h)
@@ -123,8 +124,8 @@ module _ (s : SensedQuestion) where
             (scaled-up (windowStart s .m) (lower-scale s (s .delay) 1 (windowStart s .m)) (lower-edge-scale s 1 (windowStart s .m)) c)
 
     -- without an end the search is left
-    pub search-shown : (side : Side) → windowEnd s ≡ Never → searched side s ≡ shownFrom side s (listed (windowEnd s))
-    search-shown side e = only-search side s ∙ ap (λ (m : Moment). shownFrom side s (listed m)) (sym e)
+    pub search-shown : (side : Side) → windowEnd s ≡ Never → searched side s ≡ shownFrom side s (asList (windowEnd s))
+    search-shown side e = only-search side s ∙ ap (λ (m : Moment). shownFrom side s (asList m)) (sym e)
 
   -- ---- the window's first time is tried first
   module _ (t : Instant) (e : opening s ≡ At t) (side : Side) where
@@ -136,11 +137,11 @@ module _ (s : SensedQuestion) where
 
     pub first-hit : notBeyond side s (t .n) (t .m) ≡ true → At t ≡ timeShown side s
     unfolding timeShown
-    first-hit h = ap At (opened-at t e .0) ∙ hit side s (windowStart s) (pathInstants side s ++ listed (windowEnd s)) (sym at-start ∙ h)
+    first-hit h = ap At (opened-at t e .0) ∙ hit side s (windowStart s) (pathInstants side s ++ asList (windowEnd s)) (sym at-start ∙ h)
 
-    pub first-miss : notBeyond side s (t .n) (t .m) ≡ false → shownFrom side s (pathInstants side s ++ listed (windowEnd s)) ≡ timeShown side s
+    pub first-miss : notBeyond side s (t .n) (t .m) ≡ false → shownFrom side s (pathInstants side s ++ asList (windowEnd s)) ≡ timeShown side s
     unfolding timeShown
-    first-miss h = miss side s (windowStart s) (pathInstants side s ++ listed (windowEnd s)) (first-tried h)
+    first-miss h = miss side s (windowStart s) (pathInstants side s ++ asList (windowEnd s)) (first-tried h)
 
   -- ---- from the turning instant on
   turned : (q : ℤ) (a d : ℕ) (x : ℤ) (t : Instant) → turningInstant q a d x ≡ At t → (pos 0 ≤ℤ q) × (d * a + max0 (negℤ x) ÷ a ≡ t)
@@ -165,43 +166,43 @@ module _ (s : SensedQuestion) where
     positive : 0 < t .m
     positive = subst (λ (v : Instant). 0 < v .m) (turned (s .target) (s .strength) (s .delay) (u-d s) t e .1) (z .a-lo)
 
-    divisors : (y : Instant) → Among y (t ∷ listed (windowEnd s)) → 0 < y .m
+    divisors : (y : Instant) → Among y (t ∷ asList (windowEnd s)) → 0 < y .m
     divisors y i = ⊎-elim (λ g. subst (λ (v : Instant). 0 < v .m) (sym g) positive) (windowEnd-divisor s y) i
 
     -- turned by the window's start
-    pub turned-before : Opened s → StartTried Lower s → t ≼ windowStart s → Never ≡ shownFrom Lower s (t ∷ listed (windowEnd s))
+    pub turned-before : Opened s → StartTried Lower s → t ≼ windowStart s → Never ≡ shownFrom Lower s (t ∷ asList (windowEnd s))
     turned-before o h l = risen-shown (windowStart s) (windowStart-divisor s) l
         (λ c. no (inConflict Lower s (windowStart s .n) (windowStart s .m)) h (conflict-decided s (windowStart s .n) (windowStart s .m) Lower .1 (record { window = start-window o; vertical = c })))
-        (t ∷ listed (windowEnd s)) (λ y i. (divisors y i, λ c. window-between s (y .n) (y .m) (c .window) .after))
+        (t ∷ asList (windowEnd s)) (λ y i. (divisors y i, λ c. window-between s (y .n) (y .m) (c .window) .after))
 
     -- beyond the edge at its lowest
-    pub lowest-beyond : inWindow s (t .n) (t .m) ≡ true → notBeyond Lower s (t .n) (t .m) ≡ false → Never ≡ shownFrom Lower s (t ∷ listed (windowEnd s))
-    lowest-beyond w h = risen-shown t positive (≼-refl t) (λ c. no (notBeyond Lower s (t .n) (t .m)) h (notBeyond-decided Lower s (t .n) (t .m) .1 c)) (t ∷ listed (windowEnd s))
+    pub lowest-beyond : inWindow s (t .n) (t .m) ≡ true → notBeyond Lower s (t .n) (t .m) ≡ false → Never ≡ shownFrom Lower s (t ∷ asList (windowEnd s))
+    lowest-beyond w h = risen-shown t positive (≼-refl t) (λ c. no (notBeyond Lower s (t .n) (t .m)) h (notBeyond-decided Lower s (t .n) (t .m) .1 c)) (t ∷ asList (windowEnd s))
         (λ y i. (divisors y i, λ c. ⊎-elim (λ g. subst (λ (v : Instant). t ≼ v) (sym g) (≼-refl t)) (window-between s (t .n) (t .m) (window-decided s (t .n) (t .m) .0 (yes (inWindow s (t .n) (t .m)) w)) .before y) i))
 
 -- what is shown after d, by the path's lowest point
 abbrev pub afterLowest : SensedQuestion → LowestPoint → Moment
 afterLowest s Passed = Never
 afterLowest s (Inside t) = shownAt Lower s t
-afterLowest s Beyond = shownFrom Lower s (listed (windowEnd s))
+afterLowest s Beyond = shownFrom Lower s (asList (windowEnd s))
 
 module _ (s : SensedQuestion) (z : Sizes s) (o : Opened s) (h : StartTried Lower s) where
   module _ (t : Instant) (e : turning-of s ≡ At t) where
-    at-lowest : inWindow s (t .n) (t .m) ≡ true → (b : Bool) → notBeyond Lower s (t .n) (t .m) ≡ b → cond b (At t) Never ≡ shownFrom Lower s (t ∷ listed (windowEnd s))
-    at-lowest w true q = hit Lower s t (listed (windowEnd s)) (sym (inside Lower s (t .n) (t .m) w) ∙ q)
+    at-lowest : inWindow s (t .n) (t .m) ≡ true → (b : Bool) → notBeyond Lower s (t .n) (t .m) ≡ b → cond b (At t) Never ≡ shownFrom Lower s (t ∷ asList (windowEnd s))
+    at-lowest w true q = hit Lower s t (asList (windowEnd s)) (sym (inside Lower s (t .n) (t .m) w) ∙ q)
     at-lowest w false q = lowest-beyond s z t e w q
 
-    by-tests : (b : Bool) → noLater t (windowStart s) ≡ b → (w : Bool) → inWindow s (t .n) (t .m) ≡ w → afterLowest s (cond b Passed (cond w (Inside t) Beyond)) ≡ shownFrom Lower s (t ∷ listed (windowEnd s))
+    by-tests : (b : Bool) → noLater t (windowStart s) ≡ b → (w : Bool) → inWindow s (t .n) (t .m) ≡ w → afterLowest s (cond b Passed (cond w (Inside t) Beyond)) ≡ shownFrom Lower s (t ∷ asList (windowEnd s))
     unfolding shownAt
     by-tests true q w r = turned-before s z t e o h (noLater-true t (windowStart s) .0 q)
     by-tests false q true r = at-lowest r (notBeyond Lower s (t .n) (t .m)) refl
-    by-tests false q false r = miss Lower s t (listed (windowEnd s)) (outside-clear Lower s (t .n) (t .m) r)
+    by-tests false q false r = miss Lower s t (asList (windowEnd s)) (outside-clear Lower s (t .n) (t .m) r)
 
-  pub lowest-shown : afterLowest s (lowestPoint s) ≡ shownFrom Lower s (listed (turning-of s) ++ listed (windowEnd s))
+  pub lowest-shown : afterLowest s (lowestPoint s) ≡ shownFrom Lower s (asList (turning-of s) ++ asList (windowEnd s))
   unfolding lowestPoint
   lowest-shown = go (turning-of s) refl
     where
-      go : (m : Moment) → turning-of s ≡ m → afterLowest s (lowestBy s m) ≡ shownFrom Lower s (listed m ++ listed (windowEnd s))
+      go : (m : Moment) → turning-of s ≡ m → afterLowest s (lowestBy s m) ≡ shownFrom Lower s (asList m ++ asList (windowEnd s))
       go Never e = refl
       go (At t) e = by-tests t e (noLater t (windowStart s)) refl (inWindow s (t .n) (t .m)) refl
 

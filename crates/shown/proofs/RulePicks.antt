@@ -17,10 +17,11 @@ use Rattle.path.specs.declared.SensedQuestion.{SensedQuestion}
 use Rattle.path.specs.declared.Side.{Side}
 use Rattle.path.specs.declared.Side.the-variants.{Lower, Upper}
 use Rattle.path.specs.Paths.{u-d}
-use Rattle.path.specs.Window.{Window, inWindow, windowEnd}
-use Rattle.path.specs.Conflict.{Conflict, ConflictTime, ConflictExists, inConflict}
-use Rattle.path.specs.Instants.{Among, listed, turningInstant, pathInstants, instants}
-use Rattle.path.specs.Sizes.{Sized, searchEnd}
+use Rattle.path.specs.Window.{Window, windowEnd}
+use Rattle.path.specs.inner.Tests.{inWindow, inConflict}
+use Rattle.path.specs.Conflict.{Conflict, ConflictTime, ConflictExists}
+use Rattle.path.specs.Instants.{Among, asList, turningInstant, pathInstants, instants}
+use Rattle.path.specs.inner.Sizes.{Sized, searchEnd}
 use Rattle.path.proofs.Membership.{among-one}
 use Rattle.path.proofs.Decisions.{window-decided, conflict-decided}
 use Rattle.path.proofs.WindowEnds.{window-between, endless-start}
@@ -35,14 +36,14 @@ module _ (side : Side) (s : SensedQuestion) where
   abbrev C : Instant → Type 0
   C t = Conflict side s (t .n) (t .m)
 
-  before-end : (x y : Instant) → C x → Among y (listed (windowEnd s)) → x ≼ y
+  before-end : (x y : Instant) → C x → Among y (asList (windowEnd s)) → x ≼ y
   before-end x y c i = window-between s (x .n) (x .m) (c .window) .before y i
 
-  one-ordered : (m : Moment) → Ordered C (listed m)
+  one-ordered : (m : Moment) → Ordered C (asList m)
   one-ordered Never = tt
   one-ordered (At t) = (λ y i. absurd i, tt)
 
-  delay-turning : (q : ℤ) (y : Instant) → Among y (listed (turningInstant q (s .strength) (s .delay) (u-d s))) → s .delay ÷ 1 ≼ y
+  delay-turning : (q : ℤ) (y : Instant) → Among y (asList (turningInstant q (s .strength) (s .delay) (u-d s))) → s .delay ÷ 1 ≼ y
   delay-turning (pos q) y i = among-one (λ x. s .delay ÷ 1 ≼ x) (s .delay * s .strength + max0 (negℤ (u-d s)) ÷ s .strength) y (omega arith) i
   delay-turning (negsuc q) y i = absurd i
 
@@ -53,7 +54,7 @@ module _ (side : Side) (s : SensedQuestion) where
   instants-ordered : Ordered C (instants side s)
   instants-ordered = (
     λ y i cx cy. window-between s (y .n) (y .m) (cy .window) .after,
-    ordered-++ C (pathInstants side s) (listed (windowEnd s)) (path-ordered side) (one-ordered (windowEnd s)) (λ x y i j cx cy. before-end x y cx j),
+    ordered-++ C (pathInstants side s) (asList (windowEnd s)) (path-ordered side) (one-ordered (windowEnd s)) (λ x y i j cx cy. before-end x y cx j),
   )
 
 -- ---- the tests of the search

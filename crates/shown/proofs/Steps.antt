@@ -16,16 +16,17 @@ use Rattle.instant.specs.Order.{_÷_}
 use Rattle.path.specs.declared.SensedQuestion.{SensedQuestion}
 use Rattle.path.specs.declared.Side.{Side}
 use Rattle.path.specs.declared.Side.the-variants.{Lower, Upper}
-use Rattle.path.specs.Window.{inWindow, windowEnd}
-use Rattle.path.specs.Conflict.{NotBeyond, notBeyond, inConflict}
-use Rattle.path.specs.Instants.{Among, listed}
-use Rattle.path.specs.Sizes.{Sized, farthest, searchStart, searchEnd}
+use Rattle.path.specs.Window.{windowEnd}
+use Rattle.path.specs.inner.Tests.{inWindow, notBeyond, inConflict}
+use Rattle.path.specs.Conflict.{NotBeyond}
+use Rattle.path.specs.Instants.{Among, asList}
+use Rattle.path.specs.inner.Sizes.{Sized, farthest, searchStart, searchEnd}
 use Rattle.path.proofs.Decisions.{window-decided, notBeyond-decided}
 use Rattle.path.proofs.WindowEnds.{between-window, endless-start-zero, endless-start}
 use Rattle.path.proofs.SideProfiles.{Approaches, reaches-end}
 use Rattle.path.proofs.WholeSeconds.{none-before}
 use Rattle.shown.specs.TimeShown.{firstOf, firstSecond, orElse, isNever, approaches, searches, secondsTried, searched, shownFrom}
-use Rattle.shown.specs.inner.Steps.{StartTried, Tried, Searchable, firstReached}
+use Rattle.shown.specs.inner.Steps.{StartTried, InstantsTried, Searchable, firstReached}
 
 -- ---- tests as equations
 pub yes : (b : Bool) → b ≡ true → T b
@@ -107,7 +108,7 @@ module _ (side : Side) (s : SensedQuestion) where
     all-in : inWindow s 0 1 ≡ true → (j : ℕ) → inWindow s j 1 ≡ true
     all-in w j = true-of (inWindow s j 1) (window-decided s j 1 .1
         (between-window s 0 1 j 1 (omega arith) (window-decided s 0 1 .0 (yes (inWindow s 0 1) w))
-        (record { after = endless-start s endless j; before = λ t i. absurd (subst (λ (m : Moment). Among t (listed m)) endless i) })))
+        (record { after = endless-start s endless j; before = λ t i. absurd (subst (λ (m : Moment). Among t (asList m)) endless i) })))
 
     at-second : inWindow s 0 1 ≡ true → (j : ℕ) → notBeyond side s j 1 ≡ inConflict side s j 1
     at-second w j = inside j 1 (all-in w j)
@@ -128,7 +129,7 @@ module _ (side : Side) (s : SensedQuestion) where
     zero-clear w h = at-second w 0 ∙ ap (λ (t : Instant). inConflict side s (t .n) (t .m)) (sym (endless-start-zero s endless)) ∙ h
 
 -- ---- the search may begin
-pub searchable : (side : Side) (s : SensedQuestion) → windowEnd s ≡ Never → inWindow s 0 1 ≡ true → approaches side s ≡ true → Tried side s → Searchable side s
+pub searchable : (side : Side) (s : SensedQuestion) → windowEnd s ≡ Never → inWindow s 0 1 ≡ true → approaches side s ≡ true → InstantsTried side s → Searchable side s
 searchable Lower s e w a h = record { approach = a; zero = zero-clear Lower s e w (h .0); start = at-second Lower s e w (s .delay) ∙ h .1 }
 searchable Upper s e w a h = record { approach = a; zero = zero-clear Upper s e w h; start = zero-clear Upper s e w h }
 

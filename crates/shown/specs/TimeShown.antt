@@ -14,8 +14,8 @@ use Rattle.path.specs.declared.Side.{Side}
 use Rattle.path.specs.declared.Side.the-variants.{Lower, Upper}
 use Rattle.path.specs.Letters.{q}
 use Rattle.path.specs.Paths.{upperTarget}
-use Rattle.path.specs.Window.{inWindow, windowEnd}
-use Rattle.path.specs.Conflict.{inConflict}
+use Rattle.path.specs.Window.{windowEnd}
+use Rattle.path.specs.inner.Tests.{inWindow, inConflict}
 use Rattle.path.specs.Instants.{instants}
 
 -- the first of a list that passes a test; the instants stand in time's order

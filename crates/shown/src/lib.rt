@@ -6,12 +6,12 @@ ghost use Rattle.instant.specs.Order.{_÷_};
 ghost use Rattle.path.specs.declared.Side.the-variants.{Lower};
 ghost use Rattle.path.specs.Letters.{q, a, d};
 ghost use Rattle.path.specs.Paths.{u-d};
-ghost use Rattle.path.specs.Window.{windowStart, windowEnd, opening};
-ghost use Rattle.path.specs.Conflict.{inConflict};
-ghost use Rattle.path.specs.Instants.{listed, turningInstant, pathInstants};
-ghost use Rattle.path.specs.Sizes.{Sizes, Sized, InReach, searchStart, searchEnd};
+ghost use Rattle.path.specs.Window.{windowStart, windowEnd};
+ghost use Rattle.path.specs.inner.Tests.{opening, inConflict};
+ghost use Rattle.path.specs.Instants.{asList, turningInstant, pathInstants};
+ghost use Rattle.path.specs.inner.Sizes.{Sizes, Sized, InReach, searchStart, searchEnd};
 ghost use Rattle.shown.specs.TimeShown.{approaches, searched, shownFrom, timeShown};
-ghost use Rattle.shown.specs.inner.Steps.{Opened, StartTried, Tried, shownAt, lowestPoint, Searchable, firstReached};
+ghost use Rattle.shown.specs.inner.Steps.{Opened, StartTried, InstantsTried, shownAt, lowestPoint, Searchable, firstReached};
 use conflict::not_beyond;
 use conflict::speed_after_delay;
 use conflict::upper_target;
@@ -95,7 +95,7 @@ fn first_second(side: Side, s: SensedQuestion) -> u64
 // What is left where the window has no end and no instant has a conflict.
 fn from_search(side: Side, s: SensedQuestion) -> Moment
     requires { ⌜ Sized side s ⌝ }
-    requires { ⌜ Opened s × Tried side s ⌝ }
+    requires { ⌜ Opened s × InstantsTried side s ⌝ }
     requires { ⌜ windowEnd s ≡ Never ⌝ }
     ensures { λ t. ⌜ t ≡ searched side s ⌝ }
 {
@@ -121,8 +121,8 @@ fn shown_at(side: Side, s: SensedQuestion, t: Instant) -> Moment
 // The window's end is in the window where its start is; without an end the search is left.
 fn from_end(side: Side, s: SensedQuestion) -> Moment
     requires { ⌜ Sized side s ⌝ }
-    requires { ⌜ Opened s × Tried side s ⌝ }
-    ensures { λ t. ⌜ t ≡ shownFrom side s (listed (windowEnd s)) ⌝ }
+    requires { ⌜ Opened s × InstantsTried side s ⌝ }
+    ensures { λ t. ⌜ t ≡ shownFrom side s (asList (windowEnd s)) ⌝ }
 {
     let end = window_end(s);
     match end {
@@ -163,9 +163,9 @@ fn lowest_point(s: SensedQuestion, start: Instant) -> LowestPoint
 // After d has been tried. Where the path has no conflict at its lowest, no later time has one.
 fn from_lowest(s: SensedQuestion, start: Instant) -> Moment
     requires { ⌜ Sizes s ⌝ }
-    requires { ⌜ Opened s × Tried Lower s ⌝ }
+    requires { ⌜ Opened s × InstantsTried Lower s ⌝ }
     requires { ⌜ start ≡ windowStart s ⌝ }
-    ensures { λ t. ⌜ t ≡ shownFrom Lower s (listed (turningInstant (q s) (a s) (d s) (u-d s)) ++ listed (windowEnd s)) ⌝ }
+    ensures { λ t. ⌜ t ≡ shownFrom Lower s (asList (turningInstant (q s) (a s) (d s) (u-d s)) ++ asList (windowEnd s)) ⌝ }
 {
     match lowest_point(s, start) {
         LowestPoint::Passed => Moment::Never,
@@ -194,7 +194,7 @@ fn from_delay(s: SensedQuestion, start: Instant) -> Moment
     requires { ⌜ Sizes s ⌝ }
     requires { ⌜ Opened s × StartTried Lower s ⌝ }
     requires { ⌜ start ≡ windowStart s ⌝ }
-    ensures { λ t. ⌜ t ≡ shownFrom Lower s (pathInstants Lower s ++ listed (windowEnd s)) ⌝ }
+    ensures { λ t. ⌜ t ≡ shownFrom Lower s (pathInstants Lower s ++ asList (windowEnd s)) ⌝ }
 {
     if conflict_at_delay(s, start) {
         return Moment::At(Instant { n: s.delay, m: 1 });

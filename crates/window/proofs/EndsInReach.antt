@@ -11,22 +11,23 @@ use Rattle.integers.proofs.Quotation.{quote}
 use Rattle.integers.proofs.Certificates.{by≤, gap≤, _⊞_, pos≤}
 use Rattle.integers.proofs.Laws.{max0-le}
 use Rattle.instant.specs.declared.Instant.{Instant}
-use Rattle.instant.specs.Order.{Sized, _÷_, earlier}
+use Rattle.instant.specs.Order.{_÷_, earlier}
+use Rattle.instant.specs.inner.Sizes.{SizedInstant}
 use Rattle.instant.proofs.TimeOrder.{earlier-elim}
 use Rattle.path.specs.declared.Limit.{Limit}
 use Rattle.path.specs.declared.Limit.the-variants.{Unlimited, Upto}
 use Rattle.path.specs.declared.SensedQuestion.{SensedQuestion}
 use Rattle.path.specs.declared.Side.the-variants.{Lower}
 use Rattle.path.specs.Window.{startOf, exitOf, endOf, windowStart, windowEnd}
-use Rattle.path.specs.Instants.{Among, listed}
-use Rattle.path.specs.Sizes.{LimitSize, Sizes, farthest, InReach}
+use Rattle.path.specs.Instants.{Among, asList}
+use Rattle.path.specs.inner.Sizes.{LimitSize, Sizes, farthest, InReach}
 use Rattle.path.proofs.Membership.{among-one}
 use Rattle.window.proofs.CodeEnds.{moving-start}
 
 abbrev pub Near : Instant → Type 0
 Near t = InReach Lower (t .n) (t .m)
 
-pub near-sized : (t : Instant) → Near t → Sized t
+pub near-sized : (t : Instant) → Near t → SizedInstant t
 near-sized t h = record { n = omega (arith, h .n-hi); m = omega (arith, h .m-hi) }
 
 -- ---- the ends, from their numbers
@@ -48,7 +49,7 @@ exit-near c p r hc hp hr = record {
 pub second-near : (L : ℕ) → L ≤ maxLimit → Near (L ÷ 1)
 second-near L h = record { n-hi = omega arith; m-lo = omega arith; m-hi = omega arith }
 
-end-near : (c p : ℕ) (r : ℤ) (l : Limit) → c ≤ maxClosingSpeed → p ≤ maxRadius → r ≤ℤ pos maxDistance → LimitSize l → (t : Instant) → Among t (listed (endOf c r p l)) → Near t
+end-near : (c p : ℕ) (r : ℤ) (l : Limit) → c ≤ maxClosingSpeed → p ≤ maxRadius → r ≤ℤ pos maxDistance → LimitSize l → (t : Instant) → Among t (asList (endOf c r p l)) → Near t
 end-near zero p r Unlimited hc hp hr hl t i = absurd i
 end-near zero p r (Upto L) hc hp hr hl t i = among-one Near (L ÷ 1) t (second-near L hl) i
 end-near (suc c) p r Unlimited hc hp hr hl t i = among-one Near (max0 (r +ℤ pos p) ÷ suc c) t (exit-near c p r hc hp hr) i
@@ -70,5 +71,5 @@ module _ (s : SensedQuestion) (z : Sizes s) where
   pub moving-start-near : ¬ (s .«closing_speed» ≡ 0) → Near (max0 (s .distance -ℤ pos (s .radius)) ÷ s .«closing_speed»)
   moving-start-near h = subst Near (sym (moving-start (s .radius) (s .distance) (s .«closing_speed») h)) windowStart-near
 
-  pub windowEnd-near : (t : Instant) → Among t (listed (windowEnd s)) → Near t
+  pub windowEnd-near : (t : Instant) → Among t (asList (windowEnd s)) → Near t
   windowEnd-near = end-near (s .«closing_speed») (s .radius) (s .distance) (s .limit) (z .c-hi) (z .p-hi) (z .r-hi) (z .limit-hi)

@@ -15,7 +15,7 @@ use Rattle.path.specs.declared.Side.{Side}
 use Rattle.path.specs.declared.Side.the-variants.{Lower}
 use Rattle.path.specs.Letters.{r, c, p}
 use Rattle.path.specs.Window.{distanceAt}
-use Rattle.path.specs.Sizes.{Sizes, farthest, InReach}
+use Rattle.path.specs.inner.Sizes.{Sizes, farthest, InReach}
 
 -- ---- an instant
 module _ (side : Side) (n m : ℕ) (h : InReach side n m) where

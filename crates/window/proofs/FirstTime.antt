@@ -17,7 +17,8 @@ use Rattle.path.specs.declared.Limit.{Limit}
 use Rattle.path.specs.declared.Limit.the-variants.{Unlimited, Upto}
 use Rattle.path.specs.declared.SensedQuestion.{SensedQuestion}
 use Rattle.path.specs.Letters.{r, c, p}
-use Rattle.path.specs.Window.{InTime, inTime, inWindow, startOf, windowStart, opening}
+use Rattle.path.specs.Window.{InTime, startOf, windowStart}
+use Rattle.path.specs.inner.Tests.{inTime, inWindow, opening}
 use Rattle.path.proofs.Decisions.{intime-decided, window-decided}
 use Rattle.path.proofs.WindowEnds.{window-from, window-till, window-by, windowStart-divisor}
 use Rattle.window.proofs.CodeEnds.{moving-start}

@@ -7,8 +7,8 @@ use Rattle.advisory.proofs.CodeRanges.{article-range, not-judged-range,
 use Rattle.advisory.proofs.catalogue.Statement.{statement}
 use Rattle.advisory.proofs.catalogue.Tie as tie
 
-sense-of-requires : tie.Need-sense-of-requires
-sense-of-requires c κs = search needs
+sense-of-code-requires : tie.Need-sense-of-code-requires
+sense-of-code-requires c κs = search needs
 
 target-of-requires : tie.Need-target-of-requires
 target-of-requires c κs = search needs
@@ -18,7 +18,7 @@ unfolding catalogueOf
 returns c =
     let code = c .before .before .before .before .args .code in
     simp (
-      c .before .sense-of .ensures,
+      c .before .sense-of-code .ensures,
       c .target-of .ensures,
       article-range code (omega arith),
       le-leb 1 code (omega arith),
@@ -48,4 +48,4 @@ returns-4 c =
 
 pub catalogue-spec : {M : Type 1} → statement M
 catalogue-spec =
-    tie.close (tie.spec sense-of-requires target-of-requires returns returns-2 returns-3 returns-4)
+    tie.close (tie.spec sense-of-code-requires target-of-requires returns returns-2 returns-3 returns-4)

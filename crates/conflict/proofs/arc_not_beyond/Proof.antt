@@ -6,7 +6,7 @@ use borrow.Author.Needs.{needs}
 use mir.Syntax.{w64}
 use mir.Val.{toZ}
 use Rattle.integers.proofs.Machine.{Reading, bounded-word, fits, plain}
-use Rattle.conflict.specs.RuleSizes.{mostBend}
+use Rattle.conflict.specs.inner.RuleSizes.{mostBend}
 use Rattle.conflict.proofs.Fields.{numbers}
 use Rattle.conflict.proofs.arc_not_beyond.Statement.{statement}
 use Rattle.conflict.proofs.arc_not_beyond.Tie as tie

@@ -7,7 +7,7 @@ use native.Mathlib.Omega.{arith}
 use borrow.Author.Needs.{needs}
 use Rattle.path.specs.declared.Side.the-variants.{Lower}
 use Rattle.conflict.specs.declared.AdviceRule.{AdviceRule}
-use Rattle.conflict.specs.Divided.{ruleNotBeyond}
+use Rattle.conflict.specs.inner.Divided.{ruleNotBeyond}
 use Rattle.conflict.proofs.Divided.{delay-divided, lower-rule}
 use Rattle.conflict.proofs.Fields.{rule-sizes, missing-most}
 use Rattle.conflict.proofs.lower_not_beyond.Statement.{statement}

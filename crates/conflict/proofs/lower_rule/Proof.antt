@@ -1,7 +1,7 @@
 -- `conflict::lower_rule` meets its contract: the edge fits, and each number is the definition's. Assumes nothing.
 use borrow.Author.Needs.{needs, sfits-of}
 use Rattle.integers.proofs.Machine.{Reading, bounded-absolute, equal-to, fits, result}
-use Rattle.conflict.specs.RuleSizes.{mostStart}
+use Rattle.conflict.specs.inner.RuleSizes.{mostStart}
 use Rattle.conflict.proofs.Fields.{read-call, same-rule, numbers, start-size}
 use Rattle.conflict.proofs.lower_rule.Statement.{statement}
 use Rattle.conflict.proofs.lower_rule.Tie as tie

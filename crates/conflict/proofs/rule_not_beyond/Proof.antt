@@ -6,8 +6,8 @@ use native.Mathlib.Nat.{mul-le-mul}
 use native.Mathlib.Omega.{arith}
 use borrow.Author.Needs.{needs}
 use Rattle.path.specs.declared.Side.the-variants.{Lower}
-use Rattle.conflict.specs.Divided.{straightNotBeyond}
-use Rattle.conflict.specs.RuleSizes.{mostMissing}
+use Rattle.conflict.specs.inner.Divided.{straightNotBeyond}
+use Rattle.conflict.specs.inner.RuleSizes.{mostMissing}
 use Rattle.conflict.proofs.Divided.{arc-divided, straight-divided}
 use Rattle.conflict.proofs.Fields.{upper-reach, missing-size, bend-size}
 use Rattle.conflict.proofs.rule_not_beyond.Statement.{statement}

@@ -5,8 +5,8 @@ use mir.Syntax.{w64}
 use mir.Val.{toZ}
 use Rattle.integers.proofs.Machine.{Reading, bounded-word, word-equal-to, fits, plain}
 use Rattle.path.specs.declared.Side.the-variants.{Lower}
-use Rattle.conflict.specs.Divided.{missing}
-use Rattle.conflict.specs.RuleSizes.{mostMissing}
+use Rattle.conflict.specs.inner.Divided.{missing}
+use Rattle.conflict.specs.inner.RuleSizes.{mostMissing}
 use Rattle.conflict.proofs.Fields.{numbers, missing-size}
 use Rattle.conflict.proofs.straight_not_beyond.Statement.{statement}
 use Rattle.conflict.proofs.straight_not_beyond.Tie as tie

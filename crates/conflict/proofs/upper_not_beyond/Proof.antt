@@ -3,7 +3,7 @@ use mathlib.Core.Path.{ap, _∙_}
 use borrow.Author.Needs.{needs}
 use Rattle.path.specs.declared.Side.the-variants.{Upper}
 use Rattle.conflict.specs.declared.AdviceRule.{AdviceRule}
-use Rattle.conflict.specs.Divided.{ruleNotBeyond}
+use Rattle.conflict.specs.inner.Divided.{ruleNotBeyond}
 use Rattle.conflict.proofs.Divided.{upper-rule}
 use Rattle.conflict.proofs.Fields.{rule-sizes, missing-most}
 use Rattle.conflict.proofs.upper_not_beyond.Statement.{statement}

@@ -9,7 +9,7 @@ use Rattle.path.specs.declared.SensedQuestion.{SensedQuestion}
 use Rattle.path.specs.declared.Side.the-variants.{Upper}
 use Rattle.path.specs.Letters.{u, upper-q}
 use Rattle.path.specs.Paths.{upperTarget}
-use Rattle.path.specs.Sizes.{maxSpeedDifference, Sized}
+use Rattle.path.specs.inner.Sizes.{maxSpeedDifference, Sized}
 use Rattle.conflict.proofs.Fields.{numbers}
 use Rattle.conflict.proofs.upper_target.Statement.{statement}
 use Rattle.conflict.proofs.upper_target.Tie as tie

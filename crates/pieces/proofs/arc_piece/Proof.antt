@@ -2,7 +2,7 @@
 use mathlib.Core.Path.{refl}
 use borrow.Author.Needs.{needs}
 use Rattle.integers.proofs.Machine.{Reading, equal-to, fits, result}
-use Rattle.path.specs.Sizes.{Sizes}
+use Rattle.path.specs.inner.Sizes.{Sizes}
 use Rattle.pieces.proofs.Fields.{coefficients, read-speed-after, read-height, same-piece}
 use Rattle.pieces.proofs.arc_piece.Statement.{statement}
 use Rattle.pieces.proofs.arc_piece.Tie as tie

@@ -9,9 +9,9 @@ use borrow.Author.Needs.{needs}
 use Rattle.integers.proofs.Machine.{Reading, bounded-word, equal-to, word-equal-to, fits, result}
 use Rattle.instant.specs.Order.{_÷_}
 use Rattle.path.specs.Letters.{a, d}
-use Rattle.path.specs.Sizes.{Sizes}
+use Rattle.path.specs.inner.Sizes.{Sizes}
 use Rattle.pieces.specs.Pieces.{missingSpeed}
-use Rattle.pieces.specs.PieceSizes.{mostGap}
+use Rattle.pieces.specs.inner.PieceSizes.{mostGap}
 use Rattle.pieces.proofs.Fields.{coefficients, gap-size, read-height, same-piece}
 use Rattle.pieces.proofs.last_piece.Statement.{statement}
 use Rattle.pieces.proofs.last_piece.Tie as tie

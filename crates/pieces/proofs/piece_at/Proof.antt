@@ -4,7 +4,8 @@ use mathlib.Core.Bool.{Bool, true, false}
 use native.Mathlib.Omega.{arith}
 use borrow.Author.Needs.{needs}
 use Rattle.instant.specs.declared.Instant.{Instant}
-use Rattle.instant.specs.Order.{Sized, _÷_}
+use Rattle.instant.specs.Order.{_÷_}
+use Rattle.instant.specs.inner.Sizes.{SizedInstant}
 use Rattle.integers.proofs.Branches.{picks-yes, picks-no}
 use Rattle.path.specs.declared.SensedQuestion.{SensedQuestion}
 use Rattle.pieces.specs.declared.WholePiece.{WholePiece}
@@ -16,12 +17,12 @@ use Rattle.pieces.proofs.piece_at.Tie as tie
 no-later-requires : tie.Need-no-later-requires
 no-later-requires c κs =
     let y = c .before in
-    (subst (λ (p : WholePiece). Sized (p .from)) (sym (c .last-piece .ensures)) (last-from-sized (y .args .s) (y .pre .0)), record { n = omega (arith, y .pre .1); m = omega arith })
+    (subst (λ (p : WholePiece). SizedInstant (p .from)) (sym (c .last-piece .ensures)) (last-from-sized (y .args .s) (y .pre .0)), record { n = omega (arith, y .pre .1); m = omega arith })
 
 no-later-requires-2 : tie.Need-no-later-requires-2
 no-later-requires-2 c κs =
     let y = c .before .before .before .before in
-    (subst (λ (p : WholePiece). Sized (p .from)) (sym (c .arc-piece .ensures)) (arc-from-sized (y .args .s) (y .pre .0)), record { n = omega (arith, y .pre .1); m = omega arith })
+    (subst (λ (p : WholePiece). SizedInstant (p .from)) (sym (c .arc-piece .ensures)) (arc-from-sized (y .args .s) (y .pre .0)), record { n = omega (arith, y .pre .1); m = omega arith })
 
 -- the last piece has begun, or it has not
 module _ (c : tie.After-no-later) where

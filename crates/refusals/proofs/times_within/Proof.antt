@@ -41,37 +41,14 @@ two-sided-requires c κs = search needs
 no-delay-requires : tie.Need-no-delay-requires
 no-delay-requires c κs = search needs
 
--- where the delay and the limit are within theirs, only a delay when two-sided is left
-module _ (l : tie.Else2) where
-  abbrev asked : Question
-  asked = l .before .before .before .before .args .question
-
-  left : one-delay asked ≡ timesWithin asked
-  left =
-      let d = l .before .before in
-      both-in asked (sym (d .before .delay-within .ensures) ∙ not-false _ (d .if1 .left)) (sym (l .before .limit-allowed .ensures) ∙ not-false _ (l .if2 .left))
-
 returns-3 : tie.Need-returns-3
 returns-3 c =
-    let t = c .before .before in
-    let z = asked (t .before) in
-    c .no-delay .ensures ∙ ap (λ (two : Bool). not two || noDelay z) (sym (sym (t .two-sided .ensures) ∙ c .before .if3 .taken)) ∙ left (t .before)
-
-returns-4 : tie.Need-returns-4
-returns-4 c =
     let t = c .before in
-    let z = asked (t .before) in
-    ap (λ (two : Bool). not two || noDelay z) (sym (sym (t .two-sided .ensures) ∙ c .if3 .left)) ∙ left (t .before)
+    let l = t .before in
+    let d = l .before .before in
+    let z = d .before .before .args .question in
+    ap₂ (λ (two none : Bool). not two || none) (t .two-sided .ensures) (c .no-delay .ensures)
+    ∙ both-in z (sym (d .before .delay-within .ensures) ∙ not-false _ (d .if1 .left)) (sym (l .before .limit-allowed .ensures) ∙ not-false _ (l .if2 .left))
 
 pub times-within-spec : {M : Type 1} → statement M
-times-within-spec =
-    tie.close
-    (tie.spec
-    delay-within-requires
-    returns
-    limit-allowed-requires
-    returns-2
-    two-sided-requires
-    no-delay-requires
-    returns-3
-    returns-4)
+times-within-spec = tie.close (tie.spec delay-within-requires returns limit-allowed-requires returns-2 two-sided-requires no-delay-requires returns-3)

@@ -8,7 +8,7 @@ use borrow.Author.Tests.{eq-eqb, ne-eqb}
 use Rattle.path.specs.declared.SensedQuestion.{SensedQuestion}
 use Rattle.path.specs.Letters.{d}
 use Rattle.pieces.specs.Pieces.{missingSpeed, delayPiece, arcPiece, lastPiece, unless}
-use Rattle.pieces.specs.PieceSizes.{PieceSizes}
+use Rattle.pieces.specs.inner.PieceSizes.{PieceSizes}
 use Rattle.pieces.proofs.Fields.{delay-sizes, arc-sizes, last-sizes}
 use Rattle.screen.specs.declared.DrawnPiece.{DrawnPiece}
 use Rattle.screen.specs.Drawings.{drawnPiece, allDrawn, drawnPieces, drawn}

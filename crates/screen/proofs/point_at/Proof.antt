@@ -6,7 +6,7 @@ use lib.Ieee.{Float}
 use borrow.Author.Needs.{needs}
 use Rattle.instant.specs.Order.{_÷_}
 use Rattle.pieces.specs.Pieces.{pieceAt}
-use Rattle.pieces.specs.PieceSizes.{PieceSizes}
+use Rattle.pieces.specs.inner.PieceSizes.{PieceSizes}
 use Rattle.pieces.proofs.Fields.{piece-at-sizes}
 use Rattle.screen.specs.declared.Piece.{Piece}
 use Rattle.screen.specs.declared.ScreenPoint.{ScreenPoint}

@@ -2,7 +2,7 @@
 use mathlib.Core.Path.{_≡_, sym, ap, subst, _∙_}
 use borrow.Author.Needs.{needs}
 use Rattle.path.specs.declared.SensedQuestion.{SensedQuestion}
-use Rattle.path.specs.Sizes.{Sizes}
+use Rattle.path.specs.inner.Sizes.{Sizes}
 use Rattle.question.specs.declared.Checked.{Checked}
 use Rattle.question.specs.Refusals.{refusal}
 use Rattle.sensed.specs.Sensed.{sensedQuestion}

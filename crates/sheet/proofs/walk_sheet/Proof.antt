@@ -17,7 +17,7 @@ use Rattle.answering.specs.declared.State.{State}
 use Rattle.answering.specs.States.{stateAfter}
 use Rattle.answering.specs.Replies.{replyTo}
 use Rattle.sheet.specs.WholeSheet.{answersFrom, sheetAnswer}
-use Rattle.sheet.specs.Kept.{kept, needed}
+use Rattle.sheet.specs.inner.Kept.{kept, needed}
 use Rattle.sheet.proofs.AnswerBound.{sheet-answer-short}
 use Rattle.sheet.proofs.KeptBytes.{kept-append, kept-none, needed-less}
 use Rattle.sheet.proofs.AnswersAhead.{answers-done, answers-here, answers-length-here}

@@ -6,7 +6,7 @@ use Prim.Native.Nat.{ℕ, _+_, _≤_}
 use lib.ListN.{length}
 use lib.Seq.{sets}
 use Rattle.reply.specs.AnswerBytes.{replyBytes}
-use Rattle.sheet.specs.Kept.{kept, needed}
+use Rattle.sheet.specs.inner.Kept.{kept, needed}
 use borrow.Author.Needs.{needs}
 use Rattle.sheet.proofs.write_if.Statement.{statement}
 use Rattle.sheet.proofs.write_if.Tie as tie

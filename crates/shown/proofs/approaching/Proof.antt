@@ -4,7 +4,7 @@ use borrow.Author.Needs.{needs}
 use Rattle.integers.proofs.Machine.{bounded, bounded-absolute, equal-to, plain-terms, plain}
 use Rattle.path.specs.declared.Side.{Side}
 use Rattle.path.specs.Paths.{upperTarget}
-use Rattle.path.specs.Sizes.{maxSpeedDifference, Sized}
+use Rattle.path.specs.inner.Sizes.{maxSpeedDifference, Sized}
 use Rattle.conflict.proofs.Fields.{upper-target-size}
 use Rattle.shown.specs.TimeShown.{approaches}
 use Rattle.shown.proofs.approaching.Statement.{statement}

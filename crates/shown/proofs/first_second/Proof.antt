@@ -4,7 +4,7 @@ use mathlib.Core.Path.{sym, _∙_, subst}
 use Prim.Native.Nat.{ℕ, _-_}
 use native.Mathlib.Omega.{arith}
 use borrow.Author.Needs.{needs}
-use Rattle.path.specs.Sizes.{searchStart}
+use Rattle.path.specs.inner.Sizes.{searchStart}
 use Rattle.path.proofs.SideSizes.{sizes-of}
 use Rattle.shown.proofs.Steps.{Bracket, bracket-start, bracket-found, search-in-reach}
 use Rattle.shown.proofs.first_second.Statement.{statement}

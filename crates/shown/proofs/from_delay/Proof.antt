@@ -5,8 +5,8 @@ use mathlib.Core.List.{_++_}
 use Rattle.instant.specs.Order.{_÷_}
 use Rattle.path.specs.declared.Side.the-variants.{Lower}
 use Rattle.path.specs.Window.{windowEnd}
-use Rattle.path.specs.Conflict.{inConflict}
-use Rattle.path.specs.Instants.{listed}
+use Rattle.path.specs.inner.Tests.{inConflict}
+use Rattle.path.specs.Instants.{asList}
 use Rattle.shown.proofs.Steps.{hit, miss}
 use Rattle.shown.proofs.OpenWindow.{turning-of}
 use Rattle.shown.proofs.from_delay.Statement.{statement}
@@ -18,7 +18,7 @@ conflict-at-delay-requires c κs = c .pre
 returns : tie.Need-returns
 returns c =
     let s = c .before .before .args .s in
-    hit Lower s (s .delay ÷ 1) (listed (turning-of s) ++ listed (windowEnd s)) (sym (c .before .conflict-at-delay .ensures) ∙ c .if1 .taken)
+    hit Lower s (s .delay ÷ 1) (asList (turning-of s) ++ asList (windowEnd s)) (sym (c .before .conflict-at-delay .ensures) ∙ c .if1 .taken)
 
 -- d has none
 clear : (c : tie.Else1) → inConflict Lower (c .before .before .args .s) (c .before .before .args .s .delay) 1 ≡ false
@@ -31,7 +31,7 @@ returns-2 : tie.Need-returns-2
 returns-2 c =
     let e = c .before in
     let s = e .before .before .args .s in
-    c .from-lowest .ensures ∙ miss Lower s (s .delay ÷ 1) (listed (turning-of s) ++ listed (windowEnd s)) (clear e)
+    c .from-lowest .ensures ∙ miss Lower s (s .delay ÷ 1) (asList (turning-of s) ++ asList (windowEnd s)) (clear e)
 
 pub from-delay-spec : {M : Type 1} → statement M
 from-delay-spec = tie.close (tie.spec conflict-at-delay-requires returns from-lowest-requires returns-2)

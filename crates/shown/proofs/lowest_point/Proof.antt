@@ -6,7 +6,8 @@ use Rattle.instant.specs.declared.Instant.{Instant}
 use Rattle.instant.specs.declared.Moment.the-variants.{At, Never}
 use Rattle.instant.specs.Order.{noLater}
 use Rattle.path.specs.declared.SensedQuestion.{SensedQuestion}
-use Rattle.path.specs.Window.{inWindow, windowStart}
+use Rattle.path.specs.Window.{windowStart}
+use Rattle.path.specs.inner.Tests.{inWindow}
 use Rattle.window.proofs.EndsInReach.{Near, near-sized, windowStart-near}
 use Rattle.shown.specs.declared.LowestPoint.the-variants.{Passed, Inside, Beyond}
 use Rattle.shown.specs.inner.Steps.{lowestBy, lowestPoint}

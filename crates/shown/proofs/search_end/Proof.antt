@@ -2,7 +2,7 @@
 use mathlib.Core.Path.{sym, ap}
 use borrow.Author.Needs.{needs}
 use Rattle.path.specs.declared.Side.{Side}
-use Rattle.path.specs.Sizes.{searchEnd}
+use Rattle.path.specs.inner.Sizes.{searchEnd}
 use Rattle.shown.proofs.search_end.Statement.{statement}
 use Rattle.shown.proofs.search_end.Tie as tie
 

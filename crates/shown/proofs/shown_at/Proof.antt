@@ -1,7 +1,7 @@
 -- `shown::shown_at` meets its contract: the comparison decides, as in the definition.
 use mathlib.Core.Path.{sym, _∙_}
 use Rattle.instant.specs.declared.Moment.the-variants.{At, Never}
-use Rattle.path.specs.Conflict.{notBeyond}
+use Rattle.path.specs.inner.Tests.{notBeyond}
 use Rattle.integers.proofs.Branches.{picks-yes, picks-no}
 use Rattle.shown.specs.inner.Steps.{shownAt}
 use Rattle.shown.proofs.shown_at.Statement.{statement}

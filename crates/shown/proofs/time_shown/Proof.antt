@@ -7,8 +7,8 @@ use Rattle.path.specs.declared.SensedQuestion.{SensedQuestion}
 use Rattle.path.specs.declared.Side.{Side}
 use Rattle.path.specs.declared.Side.the-variants.{Lower, Upper}
 use Rattle.path.specs.Window.{windowEnd}
-use Rattle.path.specs.Instants.{listed, pathInstants}
-use Rattle.path.specs.Sizes.{Sized}
+use Rattle.path.specs.Instants.{asList, pathInstants}
+use Rattle.path.specs.inner.Sizes.{Sized}
 use Rattle.path.proofs.SideSizes.{sizes-of}
 use Rattle.conflict.proofs.Fields.{side-reach}
 use Rattle.window.proofs.EndsInReach.{Near, windowStart-near}
@@ -31,7 +31,7 @@ returns c = let z = c .before .before in first-hit (z .args .s) (z .args .start)
 record Missed (side : Side) (s : SensedQuestion) (shown : Moment) : Type 0 where
   sized : Sized side s
   start : StartTried side s
-  rest : shownFrom side s (pathInstants side s ++ listed (windowEnd s)) ≡ shown
+  rest : shownFrom side s (pathInstants side s ++ asList (windowEnd s)) ≡ shown
 
 missed : (c : tie.Else1) (side : Side) → c .before .before .args .side ≡ side → Missed side (c .before .before .args .s) (timeShown (c .before .before .args .side) (c .before .before .args .s))
 missed c side e =

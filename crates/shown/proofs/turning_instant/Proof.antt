@@ -10,7 +10,7 @@ use Rattle.integers.proofs.Machine.{Reading, bounded, bounded-absolute, equal-t
 use Rattle.instant.specs.declared.Moment.the-variants.{At}
 use Rattle.instant.specs.Order.{_÷_}
 use Rattle.path.specs.Paths.{u-d}
-use Rattle.path.specs.Sizes.{maxSpeedDifference, maxSpeedAfterDelay}
+use Rattle.path.specs.inner.Sizes.{maxSpeedDifference, maxSpeedAfterDelay}
 use Rattle.conflict.proofs.Fields.{after-delay-size}
 use Rattle.shown.proofs.CodeTurning.{no-turning, turning, zero-minus}
 use Rattle.shown.proofs.InstantsInReach.{back-size}

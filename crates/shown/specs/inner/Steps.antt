@@ -11,10 +11,10 @@ use Rattle.path.specs.declared.Side.{Side}
 use Rattle.path.specs.declared.Side.the-variants.{Lower, Upper}
 use Rattle.path.specs.Letters.{q, a, d}
 use Rattle.path.specs.Paths.{u-d}
-use Rattle.path.specs.Window.{inWindow, windowStart}
-use Rattle.path.specs.Conflict.{notBeyond, inConflict}
+use Rattle.path.specs.Window.{windowStart}
+use Rattle.path.specs.inner.Tests.{inWindow, notBeyond, inConflict}
 use Rattle.path.specs.Instants.{turningInstant}
-use Rattle.path.specs.Sizes.{searchStart}
+use Rattle.path.specs.inner.Sizes.{searchStart}
 use Rattle.shown.specs.declared.LowestPoint.{LowestPoint}
 use Rattle.shown.specs.declared.LowestPoint.the-variants.{Passed, Inside, Beyond}
 use Rattle.shown.specs.TimeShown.{approaches, firstSecond, secondsTried}
@@ -28,9 +28,9 @@ abbrev pub StartTried : Side → SensedQuestion → Type 0
 StartTried side s = inConflict side s (windowStart s .n) (windowStart s .m) ≡ false
 
 -- nor, on the lower side, at the delay's end
-abbrev pub Tried : Side → SensedQuestion → Type 0
-Tried Lower s = StartTried Lower s × (inConflict Lower s (d s) 1 ≡ false)
-Tried Upper s = StartTried Upper s
+abbrev pub InstantsTried : Side → SensedQuestion → Type 0
+InstantsTried Lower s = StartTried Lower s × (inConflict Lower s (d s) 1 ≡ false)
+InstantsTried Upper s = StartTried Upper s
 
 -- an instant of the window, shown if the path is not beyond the intruder there
 unfoldable pub shownAt : Side → SensedQuestion → Instant → Moment

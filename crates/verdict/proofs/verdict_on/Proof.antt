@@ -6,8 +6,8 @@ use borrow.Author.Needs.{needs}
 use Rattle.instant.specs.declared.Moment.the-variants.{Never}
 use Rattle.path.specs.declared.SensedQuestion.{SensedQuestion}
 use Rattle.path.specs.declared.Side.the-variants.{Lower, Upper}
-use Rattle.path.specs.Sizes.{Sized}
-use Rattle.path.specs.Window.{opening}
+use Rattle.path.specs.inner.Sizes.{Sized}
+use Rattle.path.specs.inner.Tests.{opening}
 use Rattle.shown.specs.TimeShown.{timeShown}
 use Rattle.shown.proofs.OpenWindow.{empty-shown}
 use Rattle.question.specs.declared.Question.{Question}

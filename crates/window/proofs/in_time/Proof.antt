@@ -5,8 +5,8 @@ use native.Mathlib.Nat.{mul-le-mul}
 use native.Mathlib.Omega.{arith}
 use borrow.Author.Needs.{needs}
 use Rattle.path.specs.declared.Limit.{Limit}
-use Rattle.path.specs.Window.{inTime}
-use Rattle.path.specs.Sizes.{LimitSize}
+use Rattle.path.specs.inner.Tests.{inTime}
+use Rattle.path.specs.inner.Sizes.{LimitSize}
 use Rattle.limits.specs.Limits.{maxLimit}
 use Rattle.window.proofs.in_time.Statement.{statement}
 use Rattle.window.proofs.in_time.Tie as tie

@@ -10,7 +10,8 @@ use lib.IntN.{natAbs}
 use mir.Facts.{toZ-ofZ}
 use Rattle.integers.proofs.Machine.{bounded-absolute, equal-to, read-stored}
 use Rattle.path.specs.declared.SensedQuestion.{SensedQuestion}
-use Rattle.path.specs.Window.{inTime, distanceAt, inWindow}
+use Rattle.path.specs.Window.{distanceAt}
+use Rattle.path.specs.inner.Tests.{inTime, inWindow}
 use Rattle.window.proofs.Fields.{size, mostDistance, distance-size}
 use Rattle.window.proofs.in_window.Statement.{statement}
 use Rattle.window.proofs.in_window.Tie as tie

@@ -12,8 +12,8 @@ use Rattle.instant.specs.Order.{_÷_}
 use Rattle.path.specs.declared.SensedQuestion.{SensedQuestion}
 use Rattle.path.specs.declared.Side.the-variants.{Lower}
 use Rattle.path.specs.Letters.{r, p}
-use Rattle.path.specs.Window.{inTime, opening}
-use Rattle.path.specs.Sizes.{InReach}
+use Rattle.path.specs.inner.Tests.{inTime, opening}
+use Rattle.path.specs.inner.Sizes.{InReach}
 use Rattle.window.proofs.Fields.{numbers}
 use Rattle.window.proofs.EndsInReach.{moving-start-near}
 use Rattle.window.proofs.FirstTime.{passed-opening, still-opening, still-outside, moving-opening}

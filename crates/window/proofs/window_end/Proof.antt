@@ -4,10 +4,11 @@ use Prim.Native.Nat.{ℕ}
 use borrow.Author.Needs.{needs}
 use Rattle.instant.specs.declared.Instant.{Instant}
 use Rattle.instant.specs.declared.Moment.the-variants.{At}
-use Rattle.instant.specs.Order.{Sized, _÷_, earlier}
+use Rattle.instant.specs.Order.{_÷_, earlier}
+use Rattle.instant.specs.inner.Sizes.{SizedInstant}
 use Rattle.path.specs.declared.Limit.{Limit}
 use Rattle.path.specs.Window.{endOf}
-use Rattle.path.specs.Sizes.{LimitSize}
+use Rattle.path.specs.inner.Sizes.{LimitSize}
 use Rattle.window.proofs.CodeEnds.{moving-unlimited, moving-limited}
 use Rattle.window.proofs.EndsInReach.{near-sized, second-near, moving-exit-near}
 use Rattle.window.proofs.window_end.Statement.{statement}
@@ -40,7 +41,7 @@ earlier-requires c κs =
     let l = b .before .before in
     let z = l .before .before in
     let s = z .args .s in (
-      subst Sized (sym (c .window-exit2 .ensures)) (near-sized _ (moving-exit-near s (z .pre) (b .if2 .left))),
+      subst SizedInstant (sym (c .window-exit2 .ensures)) (near-sized _ (moving-exit-near s (z .pre) (b .if2 .left))),
       near-sized _ (second-near _ (subst LimitSize (l .limit .given .1) (z .pre .limit-hi))),
     )
 
