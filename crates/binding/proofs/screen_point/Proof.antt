@@ -2,7 +2,11 @@
 use mathlib.Core.Path.{ap, _∙_}
 use Rattle.screen.specs.Points.{screenPoint}
 use Rattle.binding.specs.Screen.{flatPoint}
-use Rattle.binding.proofs.StoredNumbers.{stored-encounter, stored-settings, stored-question, same-result}
+use Rattle.binding.proofs.StoredNumbers.{same-result, stored-result}
+use Rattle.question.specs.declared.Encounter.{Encounter}
+use Rattle.question.specs.declared.Settings.{Settings}
+use Rattle.question.specs.declared.Question.{Question}
+use Rattle.binding.specs.declared.PointResult.{PointResult}
 use borrow.Author.Needs.{needs}
 use Rattle.binding.proofs.screen_point.Statement.{statement}
 use Rattle.binding.proofs.screen_point.Tie as tie
@@ -14,11 +18,14 @@ returns c =
     let s = q .before in
     let e = s .before in
     let f = e .before .fits in
-    same-result (λ x y z. flatPoint (screenPoint x y z (e .before .args .second)))
+    let of : Encounter → Settings → Question → PointResult = λ x y z. flatPoint (screenPoint x y z (e .before .args .second)) in
+    stored-result (f .r) (f .h) (f .c) (f .v) (f .vi) (f .p) (f .k) (f .e) (f .sides) (f .sense) (f .target) (f .upper-target) (f .strength) (f .upper-strength) (f .delay) (f .limit)
+    of
+    (same-result of
     (c .flat-point .ensures ∙ ap flatPoint (j .screen-point .ensures))
-    (stored-encounter (f .r) (f .h) (f .c) (f .v) (f .vi) (e .plain-encounter .ensures))
-    (stored-settings (f .p) (f .k) (f .e) (s .plain-settings .ensures))
-    (stored-question (f .sides) (f .sense) (f .target) (f .upper-target) (f .strength) (f .upper-strength) (f .delay) (f .limit) (q .plain-question .ensures))
+    (e .plain-encounter .ensures)
+    (s .plain-settings .ensures)
+    (q .plain-question .ensures))
 
 pub screen-point-spec : {M : Type 1} → statement M
 screen-point-spec = tie.close (tie.spec (λ c κs. search needs) (λ c κs. search needs) (λ c κs. search needs) (λ c κs. search needs) (λ c κs. search needs) returns)
