@@ -1,8 +1,8 @@
 //! compare [COUNT] [SEED]: holds the proved judge against the independent implementation on COUNT
-//! plain questions (10 million), the drawings of a tenth of them with twelve seconds each, and a
-//! hundredth as many sheets, and on the worked questions and sheets; then the program that
-//! JUDGE_PROGRAM names, on its standard input and output. The status is 0 only if no answer differs and
-//! every required class was met. Drawings want the feature `screen`, sheets the feature `sheets`.
+//! plain questions (10 million), their drawings with twelve seconds each, and a hundredth as many
+//! sheets, and on the worked questions and sheets; then the program that JUDGE_PROGRAM names, on its
+//! standard input and output. The status is 0 only if no answer differs and every required class was
+//! met. Drawings want the feature `screen`, sheets the feature `sheets`.
 
 use compare::check::{self, Tally, argument};
 use compare::examples;
@@ -152,7 +152,7 @@ fn main() -> ExitCode {
         );
         progress("questions", i + 1, count, &tally, began);
     }
-    drawings(&mut tally, count.div_ceil(10), seed, began);
+    drawings(&mut tally, count, seed, began);
     sheets(&mut tally, count.div_ceil(100), seed, began);
     match std::env::var_os("JUDGE_PROGRAM") {
         Some(path) => program::compare(&mut tally, Path::new(&path), seed),
