@@ -2,7 +2,7 @@
 -- of two and what lies between them. Assumes nothing.
 use mathlib.Core.Path.{_≡_, refl, sym, ap, subst, _∙_}
 use mathlib.Core.Bool.{Bool, true, false, cond}
-use mathlib.Core.List.{List, [], _∷_}
+use mathlib.Core.List.{List, [], _∷_, _++_}
 use mathlib.Core.Logic.{_↔_, ⊎-elim}
 use Prim.Native.Nat.{ℕ, _*_, _+_, _≤_, _<_}
 use native.Mathlib.Nat.{le-of-lt}
@@ -47,7 +47,7 @@ use Rattle.screen.specs.Points.{evaluated, pointAt, screenPoint}
 use Rattle.screen.specs.RightScreen.{IsStraight, ExactPiece, ExactOnTheWay, RightPoint, RightPointAnswer}
 use Rattle.screen.proofs.Evaluation.{evaluated-exact}
 use Rattle.screen.proofs.DrawnPath.{exact-piece, accepted-second, second-above, refused-second, refused-drawing}
-use Rattle.demands.specs.Screen.{IsFloat, HasCoefficients, BeforeNext, HasLength, DrawsStretch, EachDraws, StartsAt, times, laterTimes, DrawsPath, RightlyDrawn, OnPath, RightlyPlaced}
+use Rattle.demands.specs.Screen.{IsFloat, HasCoefficients, BeforeNext, HasLength, DrawsStretch, EachDraws, StartsAt, times, laterTimes, ruleChanges, Kept, DrawsPath, RightlyDrawn, OnPath, RightlyPlaced}
 
 -- ---- the time shown of n/m
 module _ (p : WholePiece) (h : 0 < p .from .m) where
@@ -136,6 +136,13 @@ module _ (s : SensedQuestion) where
   at-most-three = few (eqb (d s) 0) (eqb (missingSpeed s) 0)
 
 module _ (s : SensedQuestion) (z : Sizes s) where
+  -- the times at which the path changes rule are kept in lowest terms
+  kept : (b c : Bool) → Kept (unless b (lowest (d s) 1) (unless c (lowest (d s * a s + missingSpeed s) (a s)) [])) (cond b [] ((d s ÷ 1) ∷ []) ++ cond c [] ((d s * a s + missingSpeed s ÷ a s) ∷ []))
+  kept true true = tt
+  kept true false = (lowest-is (d s * a s + missingSpeed s) (a s) (z .a-lo), tt)
+  kept false true = (lowest-is (d s) 1 (omega arith), tt)
+  kept false false = (lowest-is (d s) 1 (omega arith), (lowest-is (d s * a s + missingSpeed s) (a s) (z .a-lo), tt))
+
   delay : (0 < delayPiece s .from .m) × PieceSizes (delayPiece s)
   delay = (omega arith, delay-sizes s z)
 
@@ -160,7 +167,7 @@ module _ (s : SensedQuestion) (z : Sizes s) where
       record {
         few = at-most-three s;
         start = starts (list s b c) (sized b c) (right .start);
-        meetings = later-times (list s b c) ∙ right .meetings;
+        meetings = subst (λ (l : List Time). Kept l (ruleChanges s)) (sym (later-times (list s b c) ∙ right .meetings)) (kept b c);
         each = each-draws s (list s b c) (sized b c) (right .order) (right .follow);
       }
 

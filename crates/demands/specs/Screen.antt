@@ -1,18 +1,20 @@
 -- "The path on the screen" (document 02): what it asks of a drawing and of a screen point. x is an encounter, y the settings, z a question.
 use mathlib.Core.Path.{_≡_}
 use mathlib.Core.Bool.{cond}
-use mathlib.Core.List.{List, [], _∷_}
-use Prim.Native.Nat.{ℕ, _≤_, _<_}
+use mathlib.Core.List.{List, [], _∷_, _++_}
+use Prim.Native.Nat.{ℕ, _+_, _*_, _≤_, _<_}
 use lib.Dec.{eqb}
 use lib.ListN.{length, take}
-use lib.IntN.{ℤ, pos, _+ℤ_, _*ℤ_}
+use lib.IntN.{ℤ, pos, _+ℤ_, _-ℤ_, _*ℤ_}
 use lib.Ieee.{Float}
+use Rattle.integers.specs.Extremes.{max0}
 use Rattle.instant.specs.declared.Instant.{Instant}
 use Rattle.instant.specs.declared.Time.{Time}
 use Rattle.instant.specs.Order.{_÷_, _≼_, _≺_}
-use Rattle.instant.specs.LowestTerms.{shows, wholeTime}
+use Rattle.instant.specs.LowestTerms.{shows, LowestTerms, wholeTime}
 use Rattle.path.specs.declared.SensedQuestion.{SensedQuestion}
-use Rattle.path.specs.Paths.{lowerPath}
+use Rattle.path.specs.Letters.{q, a, d}
+use Rattle.path.specs.Paths.{u-d, lowerPath}
 use Rattle.question.specs.declared.Encounter.{Encounter}
 use Rattle.question.specs.declared.Settings.{Settings}
 use Rattle.question.specs.declared.Question.{Question}
@@ -20,7 +22,6 @@ use Rattle.question.specs.declared.Checked.the-variants.{Accepted, Refused}
 use Rattle.question.specs.Refusals.{refusal}
 use Rattle.sensed.specs.Sensed.{sensedQuestion}
 use Rattle.pieces.specs.Pieces.{pieceAt}
-use Rattle.pieces.specs.RightPieces.{ruleChanges}
 use Rattle.screen.specs.declared.Piece.{Piece}
 use Rattle.screen.specs.declared.DrawnPiece.{DrawnPiece}
 use Rattle.screen.specs.declared.ScreenPoint.{ScreenPoint}
@@ -83,12 +84,22 @@ abbrev pub laterTimes : List DrawnPiece → List Time
 laterTimes [] = []
 laterTimes (p ∷ l) = times l
 
--- "The lesson screen draws the lower path. Split it into at most three pieces. Pieces meet where the paths of document 01 change rule, at times kept as whole
--- seconds, remainder and divisor."
+-- where "the paths of document 01 change rule": at d, if there is a delay, and at d + G/a, if the speed G is missing there
+abbrev pub ruleChanges : SensedQuestion → List Instant
+ruleChanges s = let G = max0 (q s -ℤ u-d s) in cond (eqb (d s) 0) [] ((d s ÷ 1) ∷ []) ++ cond (eqb G 0) [] ((d s * a s + G ÷ a s) ∷ [])
+
+-- "at times kept as whole seconds, remainder and divisor": these are those, each in lowest terms
+abbrev pub Kept : List Time → List Instant → Type 0
+Kept [] [] = Unit {0}
+Kept [] (i ∷ k) = ⊥
+Kept (t ∷ l) [] = ⊥
+Kept (t ∷ l) (i ∷ k) = LowestTerms (i .n) (i .m) t × Kept l k
+
+-- "The lesson screen draws the lower path. Split it into at most three pieces. Pieces meet where the paths of document 01 change rule."
 pub record DrawsPath (s : SensedQuestion) (l : List DrawnPiece) : Type 0 where
   pub few : length l ≤ 3
   pub start : StartsAt (wholeTime 0) l
-  pub meetings : laterTimes l ≡ ruleChanges s
+  pub meetings : Kept (laterTimes l) (ruleChanges s)
   pub each : EachDraws s l
 
 -- "The other refusals are those of the entry for plain numbers."
