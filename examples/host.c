@@ -1,4 +1,4 @@
-/* A host in C: judges questions of plain numbers, and answers sheets. `compare/hosts` builds and runs it; by hand, from the repository's root:
+/* A host in C: judges questions of plain numbers, draws one, and answers sheets. `compare/hosts` builds and runs it; by hand, from the repository's root:
  *     rt staticlib binding
  *     cc -Iinclude -o host examples/host.c target/staticlib/libbinding.a && ./host examples/whole_example.sheet
  */
@@ -29,6 +29,32 @@ static JudgeResult climb(int64_t h, int64_t strength)
     return judge_plain(300000, h, 10000, 0, 0, 30000, 6000, 966, LIFGORUND_ONE_SIDED, LIFGORUND_CLIMB, 1500, 0, strength, 0, 0, LIFGORUND_NO_LIMIT);
 }
 
+static void show_piece(PieceResult piece)
+{
+    printf("  from %" PRIu64 " %" PRIu64 "/%" PRIu64 " s, %s: %.0f %.0f %.0f\n", piece.seconds, piece.remainder, piece.divisor,
+           piece.kind == LIFGORUND_ARC ? "arc" : "straight", piece.square, piece.linear, piece.constant);
+}
+
+/* The question of code 12, climb to 1,500, from level flight: its drawing. */
+static void draw(void)
+{
+    DrawingResult drawing = screen_drawing(0, 0, 0, 0, 0, 30000, 6000, 966, LIFGORUND_ONE_SIDED, LIFGORUND_CLIMB, 1500, 0, 483, 0, 5, LIFGORUND_NO_LIMIT);
+    printf("drawing: refusal %" PRIu64 ", pieces %" PRIu64 "\n", drawing.refusal, drawing.pieces);
+    if (drawing.pieces > 0)
+        show_piece(drawing.first);
+    if (drawing.pieces > 1)
+        show_piece(drawing.second);
+    if (drawing.pieces > 2)
+        show_piece(drawing.third);
+}
+
+/* And its point at a second. */
+static void point(uint64_t second)
+{
+    PointResult answer = screen_point(0, 0, 0, 0, 0, 30000, 6000, 966, LIFGORUND_ONE_SIDED, LIFGORUND_CLIMB, 1500, 0, 483, 0, 5, LIFGORUND_NO_LIMIT, second);
+    printf("point: refusal %" PRIu64 ", time %.0f, height %.0f\n", answer.refusal, answer.time, answer.height);
+}
+
 static void answer(const char *name, const uint8_t *sheet, size_t length, size_t room)
 {
     static uint8_t area[LIFGORUND_AMPLE_AREA];
@@ -52,6 +78,9 @@ int main(int argc, char **argv)
     show("M2", climb(32250, 500));
     show("M13", judge_plain(0, 6000, 0, 0, 0, 30000, 6000, 966, LIFGORUND_TWO_SIDED, LIFGORUND_CLIMB, 0, 0, 500, 500, 0, LIFGORUND_NO_LIMIT));
     show("strength 0", climb(32250, 0));
+    draw();
+    point(15);
+    point(LIFGORUND_LAST_SECOND + 1);
     answer("whole example", sheet, length, LIFGORUND_AMPLE_AREA);
     answer("cut short", sheet, length - 1, LIFGORUND_AMPLE_AREA);
     answer("area of 12 bytes", sheet, length, 12);

@@ -1,4 +1,4 @@
-"""A host in Python: judges questions of plain numbers, and answers sheets. `compare/hosts` builds the shared library and runs it; by hand, from
+"""A host in Python: judges questions of plain numbers, draws one, and answers sheets. `compare/hosts` builds the shared library and runs it; by hand, from
 the repository's root:
     rt staticlib binding
     cc -shared -o liblifgorund.so -Wl,--whole-archive target/staticlib/libbinding.a -Wl,--no-whole-archive
@@ -10,12 +10,26 @@ import sys
 
 ONE_SIDED, TWO_SIDED, CLIMB, NO_LIMIT = 1, 2, 1, 65535
 CLEAR, CONFLICTS, REFUSED = 65, 67, 68
+ARC, LAST_SECOND = 2, 600
 AMPLE_AREA = 26624
 
 
 class JudgeResult(ctypes.Structure):
     _fields_ = [(name, ctypes.c_uint64) for name in (
         "kind", "number", "lower_seconds", "lower_remainder", "lower_divisor", "upper_seconds", "upper_remainder", "upper_divisor")]
+
+
+class PieceResult(ctypes.Structure):
+    _fields_ = [(name, ctypes.c_uint64) for name in ("kind", "seconds", "remainder", "divisor")] + [
+        (name, ctypes.c_double) for name in ("square", "linear", "constant")]
+
+
+class DrawingResult(ctypes.Structure):
+    _fields_ = [("refusal", ctypes.c_uint64), ("pieces", ctypes.c_uint64), ("piece", PieceResult * 3)]
+
+
+class PointResult(ctypes.Structure):
+    _fields_ = [("refusal", ctypes.c_uint64), ("time", ctypes.c_double), ("height", ctypes.c_double)]
 
 
 class SheetResult(ctypes.Structure):
@@ -25,6 +39,10 @@ class SheetResult(ctypes.Structure):
 library = ctypes.CDLL(sys.argv[1])
 library.judge_plain.argtypes = [ctypes.c_int64] * 16
 library.judge_plain.restype = JudgeResult
+library.screen_drawing.argtypes = [ctypes.c_int64] * 16
+library.screen_drawing.restype = DrawingResult
+library.screen_point.argtypes = [ctypes.c_int64] * 16 + [ctypes.c_uint64]
+library.screen_point.restype = PointResult
 library.answer_sheet_bytes.argtypes = [ctypes.c_char_p, ctypes.c_size_t, ctypes.c_char_p, ctypes.c_size_t]
 library.answer_sheet_bytes.restype = SheetResult
 
@@ -44,6 +62,23 @@ def climb(h, strength):
     return library.judge_plain(300000, h, 10000, 0, 0, 30000, 6000, 966, ONE_SIDED, CLIMB, 1500, 0, strength, 0, 0, NO_LIMIT)
 
 
+# The question of code 12, climb to 1,500, from level flight.
+CODE_12 = (0, 0, 0, 0, 0, 30000, 6000, 966, ONE_SIDED, CLIMB, 1500, 0, 483, 0, 5, NO_LIMIT)
+
+
+def draw():
+    drawing = library.screen_drawing(*CODE_12)
+    print(f"drawing: refusal {drawing.refusal}, pieces {drawing.pieces}")
+    for piece in drawing.piece[:drawing.pieces]:
+        kind = "arc" if piece.kind == ARC else "straight"
+        print(f"  from {piece.seconds} {piece.remainder}/{piece.divisor} s, {kind}: {piece.square:.0f} {piece.linear:.0f} {piece.constant:.0f}")
+
+
+def point(second):
+    answer = library.screen_point(*CODE_12, second)
+    print(f"point: refusal {answer.refusal}, time {answer.time:.0f}, height {answer.height:.0f}")
+
+
 def answer(name, sheet, room):
     area = ctypes.create_string_buffer(room) if room else None
     result = library.answer_sheet_bytes(sheet, len(sheet or b""), area, room)
@@ -57,6 +92,9 @@ show("M1", climb(32249, 500))
 show("M2", climb(32250, 500))
 show("M13", library.judge_plain(0, 6000, 0, 0, 0, 30000, 6000, 966, TWO_SIDED, CLIMB, 0, 0, 500, 500, 0, NO_LIMIT))
 show("strength 0", climb(32250, 0))
+draw()
+point(15)
+point(LAST_SECOND + 1)
 answer("whole example", sheet, AMPLE_AREA)
 answer("cut short", sheet[:-1], AMPLE_AREA)
 answer("area of 12 bytes", sheet, 12)

@@ -1,4 +1,4 @@
-//! A host in Rust: judges questions of plain numbers, and answers sheets. `compare/hosts` builds and runs it; by hand, from the repository's root:
+//! A host in Rust: judges questions of plain numbers, draws one, and answers sheets. `compare/hosts` builds and runs it; by hand, from the repository's root:
 //!     rt staticlib binding
 //!     rustc -L native=target/staticlib -o host examples/host.rs && ./host examples/whole_example.sheet
 //! include/lifgorund.h says what each argument and each field is.
@@ -10,6 +10,8 @@ const NO_LIMIT: i64 = 65_535;
 const CLEAR: u64 = 65;
 const CONFLICTS: u64 = 67;
 const REFUSED: u64 = 68;
+const ARC: u64 = 2;
+const LAST_SECOND: u64 = 600;
 const AMPLE_AREA: usize = 26_624;
 
 #[repr(C)]
@@ -25,6 +27,33 @@ struct JudgeResult {
 }
 
 #[repr(C)]
+struct PieceResult {
+    kind: u64,
+    seconds: u64,
+    remainder: u64,
+    divisor: u64,
+    square: f64,
+    linear: f64,
+    constant: f64,
+}
+
+#[repr(C)]
+struct DrawingResult {
+    refusal: u64,
+    pieces: u64,
+    first: PieceResult,
+    second: PieceResult,
+    third: PieceResult,
+}
+
+#[repr(C)]
+struct PointResult {
+    refusal: u64,
+    time: f64,
+    height: f64,
+}
+
+#[repr(C)]
 struct SheetResult {
     refusal: u64,
     length: u64,
@@ -32,12 +61,24 @@ struct SheetResult {
 
 #[link(name = "binding", kind = "static")]
 unsafe extern "C" {
-    // Takes any numbers and touches no memory.
+    // These take any numbers and touch no memory.
     #[rustfmt::skip]
     safe fn judge_plain(
         r: i64, h: i64, c: i64, v: i64, vi: i64, p: i64, k: i64, e: i64, sides: i64, sense: i64,
         target: i64, upper_target: i64, strength: i64, upper_strength: i64, delay: i64, limit: i64,
     ) -> JudgeResult;
+
+    #[rustfmt::skip]
+    safe fn screen_drawing(
+        r: i64, h: i64, c: i64, v: i64, vi: i64, p: i64, k: i64, e: i64, sides: i64, sense: i64,
+        target: i64, upper_target: i64, strength: i64, upper_strength: i64, delay: i64, limit: i64,
+    ) -> DrawingResult;
+
+    #[rustfmt::skip]
+    safe fn screen_point(
+        r: i64, h: i64, c: i64, v: i64, vi: i64, p: i64, k: i64, e: i64, sides: i64, sense: i64,
+        target: i64, upper_target: i64, strength: i64, upper_strength: i64, delay: i64, limit: i64, second: u64,
+    ) -> PointResult;
 
     fn answer_sheet_bytes(sheet: *const u8, sheet_length: usize, area: *mut u8, area_length: usize) -> SheetResult;
 }
@@ -68,6 +109,23 @@ fn climb(h: i64, strength: i64) -> JudgeResult {
     judge_plain(300_000, h, 10_000, 0, 0, 30_000, 6_000, 966, ONE_SIDED, CLIMB, 1_500, 0, strength, 0, 0, NO_LIMIT)
 }
 
+/// The question of code 12, climb to 1,500, from level flight: its drawing.
+fn draw() {
+    let drawing = screen_drawing(0, 0, 0, 0, 0, 30_000, 6_000, 966, ONE_SIDED, CLIMB, 1_500, 0, 483, 0, 5, NO_LIMIT);
+    println!("drawing: refusal {}, pieces {}", drawing.refusal, drawing.pieces);
+    for piece in [drawing.first, drawing.second, drawing.third].iter().take(drawing.pieces as usize) {
+        let kind = if piece.kind == ARC { "arc" } else { "straight" };
+        let time = format!("{} {}/{} s", piece.seconds, piece.remainder, piece.divisor);
+        println!("  from {time}, {kind}: {} {} {}", piece.square, piece.linear, piece.constant);
+    }
+}
+
+/// And its point at a second.
+fn point(second: u64) {
+    let answer = screen_point(0, 0, 0, 0, 0, 30_000, 6_000, 966, ONE_SIDED, CLIMB, 1_500, 0, 483, 0, 5, NO_LIMIT, second);
+    println!("point: refusal {}, time {}, height {}", answer.refusal, answer.time, answer.height);
+}
+
 fn answer(name: &str, sheet: &[u8], room: usize) {
     let mut area = vec![0; room];
     match answer_sheet(sheet, &mut area) {
@@ -86,6 +144,9 @@ fn main() -> std::io::Result<()> {
     show("M2", climb(32_250, 500));
     show("M13", judge_plain(0, 6_000, 0, 0, 0, 30_000, 6_000, 966, TWO_SIDED, CLIMB, 0, 0, 500, 500, 0, NO_LIMIT));
     show("strength 0", climb(32_250, 0));
+    draw();
+    point(15);
+    point(LAST_SECOND + 1);
     answer("whole example", &sheet, AMPLE_AREA);
     answer("cut short", &sheet[..sheet.len() - 1], AMPLE_AREA);
     answer("area of 12 bytes", &sheet, 12);

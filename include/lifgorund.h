@@ -3,7 +3,7 @@
  * Link target/staticlib/libbinding.a, which `rt staticlib binding` proves and builds (x86-64 Linux). It needs no other library.
  * README.md says what a verdict means and how a sheet is written; examples/ has hosts in C, Rust and Python.
  *
- * Both functions end for every input, keep no state, allocate nothing and call nothing of the host, so any number of threads may
+ * Every function ends for every input, keeps no state, allocates nothing and calls nothing of the host, so any number of threads may
  * call them at once. Their results are fixed by their arguments.
  *
  * Units: a grain is 1/60 foot, so 1 ft/min is 1 grain/s. Heights and upward speeds are positive upwards.
@@ -52,7 +52,7 @@ enum {
     LIFGORUND_NO_LIMIT = 65535
 };
 
-/* Refusals. 1 to 9 concern one record, 10 to 13 a whole sheet; judge_plain gives 1 to 6. */
+/* Refusals. 1 to 9 concern one record, 10 to 13 a whole sheet; the functions of plain numbers give 1 to 6. */
 enum {
     LIFGORUND_ACCEPTED = 0,
     LIFGORUND_BAD_ENCOUNTER = 1,          /* a field of the encounter is outside its limits */
@@ -61,7 +61,7 @@ enum {
     LIFGORUND_BAD_SIDES = 4,              /* sides or sense is unknown */
     LIFGORUND_BAD_ADVICE = 5,             /* target or strength outside limits; two-sided also an upper one, an upper strength below the
                                              strength, or an upper target before the target in the sense; one-sided also an upper one not 0 */
-    LIFGORUND_BAD_TIMES = 6,              /* delay or limit outside limits, or a delay when two-sided */
+    LIFGORUND_BAD_TIMES = 6,              /* delay or limit outside limits, or a delay when two-sided; of a point also a second above 600 */
     LIFGORUND_NO_ENCOUNTER = 7,           /* a question before an accepted encounter */
     LIFGORUND_UNKNOWN_CODE = 8,           /* a code outside 1 to 18 */
     LIFGORUND_CODE_NOT_JUDGED = 9,        /* code 17 or 18 */
@@ -109,6 +109,59 @@ JudgeResult judge_plain(
     int64_t upper_strength, /* two-sided: the same for the upper path, at least the strength; one-sided: 0 */
     int64_t delay,          /* before the advice is followed, in whole seconds. 0 to 60; two-sided 0 */
     int64_t limit);         /* until when to judge, in whole seconds. 0 to 600, or LIFGORUND_NO_LIMIT */
+
+/* The kinds of a piece of path: the degree of its polynomial. */
+enum {
+    LIFGORUND_NO_PIECE = 0,
+    LIFGORUND_STRAIGHT = 1,
+    LIFGORUND_ARC = 2
+};
+
+/* The last second that has a screen point. */
+enum {
+    LIFGORUND_LAST_SECOND = 600
+};
+
+/* A piece of the lower path: from its time on, to the next piece's or without an end, the ownship's sensed height (with the sense descend
+ * positive downwards), measured from a level that starts at the ownship and moves with the intruder's vertical speed, is at t seconds
+ *     (square * t * t + linear * t + constant) / (2 * strength) grains.
+ * The coefficients are whole numbers below 2^53. A piece is a straight exactly if square is 0. Where there is no piece all is 0. */
+typedef struct PieceResult {
+    uint64_t kind; /* LIFGORUND_STRAIGHT, LIFGORUND_ARC or LIFGORUND_NO_PIECE */
+    uint64_t seconds; /* the time from which it holds, in lowest terms */
+    uint64_t remainder;
+    uint64_t divisor;
+    double square;
+    double linear;
+    double constant;
+} PieceResult;
+
+/* What screen_drawing answers. */
+typedef struct DrawingResult {
+    uint64_t refusal; /* LIFGORUND_ACCEPTED, or 1 to 6 */
+    uint64_t pieces;  /* one to three; of a refused question 0 */
+    PieceResult first; /* from 0 */
+    PieceResult second;
+    PieceResult third;
+} DrawingResult;
+
+/* Draws the lower path of a question of plain numbers, those of judge_plain, in pieces. Every argument may have any value. It writes no memory. */
+DrawingResult screen_drawing(
+    int64_t r, int64_t h, int64_t c, int64_t v, int64_t vi, int64_t p, int64_t k, int64_t e, int64_t sides, int64_t sense,
+    int64_t target, int64_t upper_target, int64_t strength, int64_t upper_strength, int64_t delay, int64_t limit);
+
+/* What screen_point answers: a point of the lower path. The height is that of the drawing, times 2 * strength, and exact: a whole number. */
+typedef struct PointResult {
+    uint64_t refusal; /* LIFGORUND_ACCEPTED, or 1 to 6 */
+    double time;      /* the second; of a refused point 0 */
+    double height;    /* of a refused point 0 */
+} PointResult;
+
+/* The point of the lower path at a whole second. A second above LIFGORUND_LAST_SECOND gets 6, after the refusals of the question. Every argument may
+ * have any value. It writes no memory. */
+PointResult screen_point(
+    int64_t r, int64_t h, int64_t c, int64_t v, int64_t vi, int64_t p, int64_t k, int64_t e, int64_t sides, int64_t sense,
+    int64_t target, int64_t upper_target, int64_t strength, int64_t upper_strength, int64_t delay, int64_t limit, uint64_t second);
 
 /* What answer_sheet_bytes answers. */
 typedef struct SheetResult {

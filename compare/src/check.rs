@@ -10,6 +10,7 @@ use crate::independent::{
     Accepted, Answer, FIELDS, Moment, NAMES, Question, Side, judge, judge_accepted,
 };
 use crate::motion;
+use crate::screen::{self, DRAWING_CLASSES, Drawing, POINT_CLASSES, Point};
 use crate::sheet;
 use std::fmt::Write;
 
@@ -34,6 +35,10 @@ pub struct Tally {
     figure5: [u64; 2],
     existence: [u64; 2],
     sampled: u64,
+    drawings: u64,
+    drawing_classes: [u64; DRAWING_CLASSES.len()],
+    points: u64,
+    point_classes: [u64; POINT_CLASSES.len()],
     sheets: u64,
     sheet_forms: [u64; SHEET_FORMS.len()],
     area_forms: [u64; AREA_FORMS.len()],
@@ -71,6 +76,10 @@ impl Default for Tally {
             figure5: [0; 2],
             existence: [0; 2],
             sampled: 0,
+            drawings: 0,
+            drawing_classes: [0; DRAWING_CLASSES.len()],
+            points: 0,
+            point_classes: [0; POINT_CLASSES.len()],
             sheets: 0,
             sheet_forms: [0; SHEET_FORMS.len()],
             area_forms: [0; AREA_FORMS.len()],
@@ -291,6 +300,26 @@ impl Tally {
         }
     }
 
+    /// Counts a question's drawing, and gives it.
+    pub fn drawing(&mut self, q: &Question) -> Drawing {
+        let drawing = screen::drawing(q);
+        self.drawings += 1;
+        for (n, (_, holds)) in self.drawing_classes.iter_mut().zip(DRAWING_CLASSES) {
+            *n += u64::from(holds(q, &drawing));
+        }
+        drawing
+    }
+
+    /// Counts a question's point at a second, and gives it.
+    pub fn point(&mut self, q: &Question, second: u64) -> Point {
+        let point = screen::point(q, second);
+        self.points += 1;
+        for (n, (_, holds)) in self.point_classes.iter_mut().zip(POINT_CLASSES) {
+            *n += u64::from(holds(q, second, &point));
+        }
+        point
+    }
+
     /// Counts a sheet, and gives its expected outcome and the area before and after.
     pub fn sheet(&mut self, case: &SheetCase) -> ExpectedSheet {
         let whole = sheet::answer_bytes(&case.sheet);
@@ -346,6 +375,9 @@ impl Tally {
         if self.questions > 0 {
             self.report_questions(&mut out);
         }
+        if self.drawings > 0 {
+            self.report_screen(&mut out);
+        }
         if self.sheets > 0 {
             self.report_sheets(&mut out);
         }
@@ -394,6 +426,17 @@ impl Tally {
             for (n, (_, text)) in counts.iter().zip(POSITIONS) {
                 out.require(*n, &format!("{} {text}", NAMES[field]));
             }
+        }
+    }
+
+    fn report_screen(&self, out: &mut Report) {
+        out.title(&format!("drawings: {}", self.drawings));
+        for (n, (text, _)) in self.drawing_classes.iter().zip(DRAWING_CLASSES) {
+            out.line(*n, text);
+        }
+        out.title(&format!("screen points: {}", self.points));
+        for (n, (text, _)) in self.point_classes.iter().zip(POINT_CLASSES) {
+            out.line(*n, text);
         }
     }
 

@@ -1,9 +1,10 @@
 //! The judge's exported functions: of the proved static library `binding` with the feature `judge`,
 //! and of any dynamic library with the same interface.
 //!
-//! Nothing checks these declarations against the library. Both functions take any values.
+//! Nothing checks these declarations against the library. Every function takes any values.
 
 use crate::independent::{Answer, Question, Time};
+use crate::screen::{Drawing, Piece, Point};
 use std::ffi::{CString, c_char, c_int, c_void};
 
 /// The answer to plain numbers. Numbers that the kind does not use are 0.
@@ -30,8 +31,42 @@ pub struct SheetResult {
     pub length: u64,
 }
 
-/// `judge_plain`.
-type Plain = unsafe extern "C" fn(
+/// A piece of a drawing; all zeros where there is none.
+#[repr(C)]
+#[derive(Clone, Copy, Debug, Default)]
+pub struct PieceResult {
+    /// 1 a straight, 2 an arc.
+    pub kind: u64,
+    pub seconds: u64,
+    pub remainder: u64,
+    pub divisor: u64,
+    pub square: f64,
+    pub linear: f64,
+    pub constant: f64,
+}
+
+/// A drawing: refusal 0 and its pieces, or the refusal and none.
+#[repr(C)]
+#[derive(Clone, Copy, Debug)]
+pub struct DrawingResult {
+    pub refusal: u64,
+    pub pieces: u64,
+    pub first: PieceResult,
+    pub second: PieceResult,
+    pub third: PieceResult,
+}
+
+/// A screen point: refusal 0, its time and height, or the refusal and zeros.
+#[repr(C)]
+#[derive(Clone, Copy, Debug)]
+pub struct PointResult {
+    pub refusal: u64,
+    pub time: f64,
+    pub height: f64,
+}
+
+/// A function of the sixteen plain numbers.
+type OfNumbers<R> = unsafe extern "C" fn(
     i64,
     i64,
     i64,
@@ -48,16 +83,37 @@ type Plain = unsafe extern "C" fn(
     i64,
     i64,
     i64,
-) -> JudgeResult;
+) -> R;
+
+/// `screen_point`: the sixteen plain numbers and a second.
+type OfSecond = unsafe extern "C" fn(
+    i64,
+    i64,
+    i64,
+    i64,
+    i64,
+    i64,
+    i64,
+    i64,
+    i64,
+    i64,
+    i64,
+    i64,
+    i64,
+    i64,
+    i64,
+    i64,
+    u64,
+) -> PointResult;
 
 /// `answer_sheet_bytes`: a sheet and an area, each a pointer and a length.
 type SheetBytes = unsafe extern "C" fn(*const u8, usize, *mut u8, usize) -> SheetResult;
 
 #[inline]
-fn asked(plain: Plain, q: &Question) -> JudgeResult {
+fn asked<R>(of_numbers: OfNumbers<R>, q: &Question) -> R {
     // SAFETY: sixteen numbers by value; every such function takes any and writes no memory.
     unsafe {
-        plain(
+        of_numbers(
             q.r,
             q.h,
             q.c,
@@ -74,6 +130,31 @@ fn asked(plain: Plain, q: &Question) -> JudgeResult {
             q.upper_strength,
             q.delay,
             q.limit,
+        )
+    }
+}
+
+fn asked_at(of_second: OfSecond, q: &Question, second: u64) -> PointResult {
+    // SAFETY: seventeen numbers by value; every such function takes any and writes no memory.
+    unsafe {
+        of_second(
+            q.r,
+            q.h,
+            q.c,
+            q.v,
+            q.vi,
+            q.p,
+            q.k,
+            q.e,
+            q.sides,
+            q.sense,
+            q.target,
+            q.upper_target,
+            q.strength,
+            q.upper_strength,
+            q.delay,
+            q.limit,
+            second,
         )
     }
 }
@@ -105,6 +186,47 @@ unsafe extern "C" {
         limit: i64,
     ) -> JudgeResult;
 
+    #[cfg(feature = "screen")]
+    fn screen_drawing(
+        r: i64,
+        h: i64,
+        c: i64,
+        v: i64,
+        vi: i64,
+        p: i64,
+        k: i64,
+        e: i64,
+        sides: i64,
+        sense: i64,
+        target: i64,
+        upper_target: i64,
+        strength: i64,
+        upper_strength: i64,
+        delay: i64,
+        limit: i64,
+    ) -> DrawingResult;
+
+    #[cfg(feature = "screen")]
+    fn screen_point(
+        r: i64,
+        h: i64,
+        c: i64,
+        v: i64,
+        vi: i64,
+        p: i64,
+        k: i64,
+        e: i64,
+        sides: i64,
+        sense: i64,
+        target: i64,
+        upper_target: i64,
+        strength: i64,
+        upper_strength: i64,
+        delay: i64,
+        limit: i64,
+        second: u64,
+    ) -> PointResult;
+
     #[cfg(feature = "sheets")]
     fn answer_sheet_bytes(
         sheet: *const u8,
@@ -121,6 +243,18 @@ pub fn judge(q: &Question) -> JudgeResult {
     asked(judge_plain, q)
 }
 
+/// The proved drawing of plain numbers.
+#[cfg(feature = "screen")]
+pub fn drawing(q: &Question) -> DrawingResult {
+    asked(screen_drawing, q)
+}
+
+/// The proved point of plain numbers at a second.
+#[cfg(feature = "screen")]
+pub fn point(q: &Question, second: u64) -> PointResult {
+    asked_at(screen_point, q, second)
+}
+
 /// The proved judge's answer to a sheet, written to the front of the area.
 #[cfg(feature = "sheets")]
 #[inline]
@@ -135,7 +269,9 @@ unsafe extern "C" {
 
 /// A judge in a dynamic library.
 pub struct Loaded {
-    plain: Plain,
+    plain: OfNumbers<JudgeResult>,
+    drawing: OfNumbers<DrawingResult>,
+    point: OfSecond,
     sheet_bytes: SheetBytes,
 }
 
@@ -152,12 +288,16 @@ impl Loaded {
                 return None;
             }
             let plain = dlsym(library, c"judge_plain".as_ptr());
+            let drawing = dlsym(library, c"screen_drawing".as_ptr());
+            let point = dlsym(library, c"screen_point".as_ptr());
             let sheet_bytes = dlsym(library, c"answer_sheet_bytes".as_ptr());
-            if plain.is_null() || sheet_bytes.is_null() {
+            if [plain, drawing, point, sheet_bytes].contains(&std::ptr::null_mut()) {
                 return None;
             }
             Some(Loaded {
-                plain: std::mem::transmute::<*mut c_void, Plain>(plain),
+                plain: std::mem::transmute::<*mut c_void, OfNumbers<JudgeResult>>(plain),
+                drawing: std::mem::transmute::<*mut c_void, OfNumbers<DrawingResult>>(drawing),
+                point: std::mem::transmute::<*mut c_void, OfSecond>(point),
                 sheet_bytes: std::mem::transmute::<*mut c_void, SheetBytes>(sheet_bytes),
             })
         }
@@ -165,6 +305,14 @@ impl Loaded {
 
     pub fn judge(&self, q: &Question) -> JudgeResult {
         asked(self.plain, q)
+    }
+
+    pub fn drawing(&self, q: &Question) -> DrawingResult {
+        asked(self.drawing, q)
+    }
+
+    pub fn point(&self, q: &Question, second: u64) -> PointResult {
+        asked_at(self.point, q, second)
     }
 
     pub fn answer_sheet(&self, sheet: &[u8], area: &mut [u8]) -> SheetResult {
@@ -287,5 +435,95 @@ impl SheetResult {
                 length: 0,
             },
         }
+    }
+}
+
+impl PieceResult {
+    fn of(piece: &Piece) -> PieceResult {
+        let [square, linear, constant] = piece.coefficients.map(|x| x as f64);
+        PieceResult {
+            kind: if piece.is_straight() { 1 } else { 2 },
+            seconds: piece.from.seconds.into(),
+            remainder: piece.from.remainder.into(),
+            divisor: piece.from.divisor.into(),
+            square,
+            linear,
+            constant,
+        }
+    }
+
+    fn numbers(&self) -> [u64; 7] {
+        [
+            self.kind,
+            self.seconds,
+            self.remainder,
+            self.divisor,
+            self.square.to_bits(),
+            self.linear.to_bits(),
+            self.constant.to_bits(),
+        ]
+    }
+}
+
+impl DrawingResult {
+    /// The result that stands for a drawing.
+    pub fn of(drawing: &Drawing) -> DrawingResult {
+        let pieces = drawing.as_deref().unwrap_or_default();
+        let place = |i: usize| {
+            pieces
+                .get(i)
+                .map_or(PieceResult::default(), PieceResult::of)
+        };
+        DrawingResult {
+            refusal: drawing
+                .as_ref()
+                .err()
+                .map_or(0, |number| u64::from(*number)),
+            pieces: pieces.len() as u64,
+            first: place(0),
+            second: place(1),
+            third: place(2),
+        }
+    }
+
+    /// Its numbers in order, a float as its bit pattern, so that 0 and -0 differ.
+    pub fn numbers(&self) -> [u64; 23] {
+        let mut numbers = vec![self.refusal, self.pieces];
+        for piece in [self.first, self.second, self.third] {
+            numbers.extend(piece.numbers());
+        }
+        numbers.try_into().expect("23 numbers")
+    }
+}
+
+impl PointResult {
+    /// The result that stands for a point.
+    pub fn of(point: &Point) -> PointResult {
+        let (refusal, (time, height)) = match *point {
+            Ok(point) => (0, point),
+            Err(number) => (u64::from(number), (0, 0)),
+        };
+        PointResult {
+            refusal,
+            time: time as f64,
+            height: height as f64,
+        }
+    }
+
+    /// Its numbers in order, a float as its bit pattern.
+    pub fn numbers(&self) -> [u64; 3] {
+        [self.refusal, self.time.to_bits(), self.height.to_bits()]
+    }
+}
+
+impl PartialEq for DrawingResult {
+    fn eq(&self, other: &DrawingResult) -> bool {
+        self.numbers() == other.numbers()
+    }
+}
+
+impl PartialEq for PointResult {
+    fn eq(&self, other: &PointResult) -> bool {
+        self.numbers() == other.numbers()
     }
 }

@@ -14,6 +14,7 @@ pub mod motion;
 pub mod program;
 pub mod rattle;
 pub mod rows;
+pub mod screen;
 pub mod sheet;
 pub mod sheet_cases;
 pub mod worked;

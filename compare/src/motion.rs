@@ -42,6 +42,14 @@ pub fn lower_height(q: &Question, t: Ratio) -> Ratio {
     during + gaining(at_delay, target, q.strength, t - d)
 }
 
+/// The instant from which the lower path has the target's speed.
+pub fn target_reached(q: &Question) -> Ratio {
+    let d = Ratio::whole(i128::from(q.delay));
+    let target = sensed(q, q.target);
+    let at_delay = sensed(q, q.v) - i128::from(q.e) * d;
+    d + (target - at_delay.min(target)).over(i128::from(q.strength))
+}
+
 /// The sensed height of the upper path at t.
 pub fn upper_height(q: &Question, t: Ratio) -> Ratio {
     let speed = sensed(q, q.v);

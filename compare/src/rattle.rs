@@ -153,15 +153,23 @@ fn adapted(line: &str, crates: &[String]) -> String {
     if declared.starts_with("struct ") || declared.starts_with("enum ") {
         return format!("#[derive(Clone, Copy)] {line}");
     }
-    let used = start
-        .strip_prefix("use ")
-        .and_then(|path| path.split_once("::"));
-    match used {
-        Some((name, rest)) if crates.iter().any(|known| known == name) => {
-            format!("use crate::{name}::{rest}")
+    let mut line = line.to_string();
+    for name in crates {
+        let places: Vec<usize> = line
+            .match_indices(&format!("{name}::"))
+            .map(|(at, _)| at)
+            .filter(|at| !line[..*at].ends_with(is_name))
+            .collect();
+        for at in places.into_iter().rev() {
+            line.insert_str(at, "crate::");
         }
-        _ => line.to_string(),
     }
+    line
+}
+
+/// Whether a character may stand in a name.
+fn is_name(x: char) -> bool {
+    x.is_alphanumeric() || x == '_'
 }
 
 /// A line without its comment.

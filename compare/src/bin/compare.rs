@@ -1,7 +1,8 @@
 //! compare [COUNT] [SEED]: holds the proved judge against the independent implementation on COUNT
-//! plain questions (10 million) and a hundredth as many sheets, and on the worked questions and
-//! sheets; then the program that JUDGE_PROGRAM names, on its standard input and output. The status is 0
-//! only if no answer differs and every required class was met. Sheets want the feature `sheets`.
+//! plain questions (10 million), their drawings with twelve seconds each, and a hundredth as many
+//! sheets, and on the worked questions and sheets; then the program that JUDGE_PROGRAM names, on its
+//! standard input and output. The status is 0 only if no answer differs and every required class was
+//! met. Drawings want the feature `screen`, sheets the feature `sheets`.
 
 use compare::check::{self, Tally, argument};
 use compare::examples;
@@ -9,6 +10,8 @@ use compare::ffi::{self, JudgeResult};
 use compare::generate::{self, Random};
 use compare::independent::{Accepted, NAMES, Question};
 use compare::program;
+#[cfg(feature = "screen")]
+use compare::screen;
 use compare::worked;
 use std::path::Path;
 use std::process::ExitCode;
@@ -35,6 +38,50 @@ fn question(tally: &mut Tally, name: impl Fn() -> String, q: &Question, wanted: 
     if found != wanted {
         tally.differ(|| describe(&name(), q, wanted, found));
     }
+}
+
+/// The drawing of a question and its points, number for number and bit for bit.
+#[cfg(feature = "screen")]
+fn screen(tally: &mut Tally, name: impl Fn() -> String, q: &Question, any: u64) {
+    let wanted = ffi::DrawingResult::of(&tally.drawing(q));
+    let found = ffi::drawing(q);
+    if found != wanted {
+        tally.differ(|| {
+            let name = name();
+            format!("drawing of {name}: {q}\n  wanted {wanted:?}\n  found  {found:?}\n")
+        });
+    }
+    for second in screen::seconds(q, any) {
+        let wanted = ffi::PointResult::of(&tally.point(q, second));
+        let found = ffi::point(q, second);
+        if found != wanted {
+            tally.differ(|| {
+                let name = name();
+                format!("{name} at {second}: {q}\n  wanted {wanted:?}\n  found  {found:?}\n")
+            });
+        }
+    }
+}
+
+#[cfg(feature = "screen")]
+fn drawings(tally: &mut Tally, count: u64, seed: u64, began: Instant) {
+    for case in worked::groups().into_iter().flat_map(|group| group.cases) {
+        if let Ok(q) = case.free() {
+            screen(tally, || case.name.clone(), &q, 0);
+        }
+    }
+    let mut random = Random::new(!seed);
+    for i in 0..count {
+        let q = generate::question(seed, i);
+        let name = || format!("question {i} of seed {seed}");
+        screen(tally, name, &q, random.draw());
+        progress("drawings", i + 1, count, tally, began);
+    }
+}
+
+#[cfg(not(feature = "screen"))]
+fn drawings(_: &mut Tally, _: u64, _: u64, _: Instant) {
+    println!("no drawing was compared");
 }
 
 #[cfg(feature = "sheets")]
@@ -105,6 +152,7 @@ fn main() -> ExitCode {
         );
         progress("questions", i + 1, count, &tally, began);
     }
+    drawings(&mut tally, count, seed, began);
     sheets(&mut tally, count.div_ceil(100), seed, began);
     match std::env::var_os("JUDGE_PROGRAM") {
         Some(path) => program::compare(&mut tally, Path::new(&path), seed),

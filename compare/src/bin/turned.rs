@@ -1,21 +1,22 @@
 //! turned [COUNT] [SEED]: how fast the comparison finds a broken judge. Each comparison in the judge's
 //! sources is turned in a copy of its own (< and <=, > and >=, == and !=), the copy is built by rustc
 //! as a dynamic library, and held against the independent implementation on COUNT plain questions (1
-//! million) and, where these find nothing, a hundredth as many sheets, up to the first difference. The
-//! status is 0 only if the copy with nothing turned agrees and just those that EQUIVALENT names are
-//! not found.
+//! million) and, where these find nothing, the drawings of a tenth of them, and a hundredth as many
+//! sheets, up to the first difference. The status is 0 only if the copy with nothing turned agrees and
+//! just those that EQUIVALENT names are not found.
 //!
 //! turned --against LIBRARY COUNT SEED: one library; writes what is found, in a line.
 
 use compare::check::{Tally, argument};
-use compare::ffi::{JudgeResult, Loaded, SheetResult};
-use compare::generate;
-use compare::independent;
+use compare::ffi::{DrawingResult, JudgeResult, Loaded, PointResult, SheetResult};
+use compare::generate::{self, Random};
+use compare::independent::{self, Question};
 use compare::rattle::{self, Comparison, Module};
+use compare::screen;
 use std::ffi::{c_int, c_uint};
 use std::path::{Path, PathBuf};
 use std::process::{Command, ExitCode};
-use std::sync::atomic::{AtomicBool, AtomicU64, Ordering::Relaxed};
+use std::sync::atomic::{AtomicU64, AtomicUsize, Ordering::Relaxed};
 use std::time::Instant;
 
 /// A turned comparison that changes no answer, by its function and its line as turned, which stay the
@@ -30,7 +31,7 @@ const EQUIVALENT: &[Equivalent] = &[
     Equivalent {
         function: "no_later",
         turned: "a.n * b.m < b.n * a.m",
-        reason: "of two instants that are the same time either is shown alike, in lowest terms; a path that turns at the window's start is tried there once more",
+        reason: "of two instants that are the same time either is shown alike, in lowest terms; a path that turns at the window's start is tried there once more; two pieces have the same height where they meet",
     },
     Equivalent {
         function: "gcd",
@@ -109,10 +110,10 @@ const EQUIVALENT: &[Equivalent] = &[
     },
 ];
 
-const PLACES: [&str; 2] = ["question", "sheet"];
+const PLACES: [&str; 3] = ["question", "drawing", "sheet"];
 
-// What the handlers tell: whether sheets have begun, and the number of the case.
-static SHEETS: AtomicBool = AtomicBool::new(false);
+// What the handlers tell: the place, and the number of the case.
+static PLACE: AtomicUsize = AtomicUsize::new(0);
 static CASE: AtomicU64 = AtomicU64::new(0);
 /// The case at the last alarm.
 static BEFORE: AtomicU64 = AtomicU64::new(u64::MAX);
@@ -128,7 +129,7 @@ unsafe extern "C" {
 }
 
 fn report(what: &str) -> ! {
-    let place = PLACES[usize::from(SHEETS.load(Relaxed))];
+    let place = PLACES[PLACE.load(Relaxed)];
     println!("{place} {} {what}", CASE.load(Relaxed));
     std::process::exit(0);
 }
@@ -150,6 +151,11 @@ fn begin(case: u64) {
     CASE.store(case, Relaxed);
 }
 
+fn begin_place(place: usize) {
+    PLACE.store(place, Relaxed);
+    BEFORE.store(u64::MAX, Relaxed);
+}
+
 /// What differs between two answers.
 fn difference(wanted: JudgeResult, found: JudgeResult) -> String {
     if wanted.kind != found.kind {
@@ -159,6 +165,18 @@ fn difference(wanted: JudgeResult, found: JudgeResult) -> String {
         65 => "other clear sides".into(),
         68 => "another refusal".into(),
         _ => "another time".into(),
+    }
+}
+
+/// Holds a drawing and twelve of its seconds against the independent ones.
+fn drawn(judge: &Loaded, q: &Question, any: u64) {
+    if judge.drawing(q) != DrawingResult::of(&screen::drawing(q)) {
+        report("another drawing");
+    }
+    for second in screen::seconds(q, any) {
+        if judge.point(q, second) != PointResult::of(&screen::point(q, second)) {
+            report("another point");
+        }
     }
 }
 
@@ -183,8 +201,13 @@ fn against(library: &str, count: u64, seed: u64) -> ExitCode {
             report(&difference(wanted, found));
         }
     }
-    SHEETS.store(true, Relaxed);
-    BEFORE.store(u64::MAX, Relaxed);
+    begin_place(1);
+    let mut random = Random::new(!seed);
+    for i in 0..count.div_ceil(10) {
+        begin(i);
+        drawn(&judge, &generate::question(seed, i), random.draw());
+    }
+    begin_place(2);
     let mut tally = Tally::default();
     for i in 0..count.div_ceil(100) {
         begin(i);
@@ -256,9 +279,9 @@ fn tried(
 #[derive(Default)]
 struct Summary {
     turned: u64,
-    /// Found by questions and by sheets, and the latest case of each.
-    found: [u64; 2],
-    latest: [u64; 2],
+    /// Found by questions, by drawings and by sheets, and the latest case of each.
+    found: [u64; PLACES.len()],
+    latest: [u64; PLACES.len()],
     longest: f64,
     equivalent: Vec<String>,
     faults: Vec<String>,
@@ -271,7 +294,7 @@ impl Summary {
         let time = format!("{took:.2} s");
         match (found, known) {
             (Found::At(place, case, what), known) => {
-                let i = usize::from(place == PLACES[1]);
+                let i = PLACES.iter().position(|known| *known == place).unwrap();
                 self.found[i] += 1;
                 self.latest[i] = self.latest[i].max(case);
                 self.longest = self.longest.max(took);
@@ -357,14 +380,15 @@ fn main() -> ExitCode {
         }
     };
     println!(
-        "\n{} turned; at most {count} questions and {} sheets of seed {seed} each",
+        "\n{} turned; at most {count} questions, {} drawings and {} sheets of seed {seed} each",
         summary.turned,
+        count.div_ceil(10),
         count.div_ceil(100)
     );
-    println!(
-        "{} found by questions, the last at question {}; {} by sheets, the last at sheet {}; each within {:.2} s",
-        summary.found[0], summary.latest[0], summary.found[1], summary.latest[1], summary.longest
-    );
+    for (place, (found, latest)) in PLACES.iter().zip(summary.found.iter().zip(summary.latest)) {
+        println!("{found} found by {place}s, the last at {place} {latest}");
+    }
+    println!("each within {:.2} s", summary.longest);
     println!("{} equivalent:", summary.equivalent.len());
     for known in &summary.equivalent {
         println!("{known}");

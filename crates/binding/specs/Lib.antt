@@ -1,2 +1,3 @@
 pub mod PlainNumbers
 pub mod Flat
+pub mod Screen

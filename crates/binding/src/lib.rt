@@ -5,7 +5,10 @@ ghost use Rattle.instant.specs.Lowest.{noTime};
 ghost use Rattle.judge.specs.Answers.{answer};
 ghost use Rattle.sheet.specs.WholeSheet.{outcome, areaAfter};
 ghost use Rattle.binding.specs.PlainNumbers.{plainEncounter, plainSettings, plainQuestion};
+ghost use Rattle.screen.specs.Drawings.{content, screenDrawing};
+ghost use Rattle.screen.specs.Points.{screenPoint};
 ghost use Rattle.binding.specs.Flat.{withTimes, flatVerdict, flatAnswer, flatOutcome};
+ghost use Rattle.binding.specs.Screen.{noPiece, flatPiece, flatContent, flatPoint};
 use instant::Time;
 use judge::Answer;
 use judge::judge;
@@ -13,6 +16,10 @@ use judge::sides_number;
 use question::Encounter;
 use question::Question;
 use question::Settings;
+use screen::Drawing;
+use screen::DrawnPiece;
+use screen::Piece;
+use screen::PointAnswer;
 use sheet::Outcome;
 use sheet::answer_sheet;
 use verdict::Verdict;
@@ -188,4 +195,203 @@ pub extern "C" fn answer_sheet_bytes(sheet: &[u8], area: &mut [u8]) -> SheetResu
     ensures { λ r. ⌜ (r ≡ flatOutcome (outcome (now (sheet .entry)) (length (now (area .entry))))) × (now (area .exit) ≡ areaAfter (now (sheet .entry)) (now (area .entry))) ⌝ }
 {
     flat_outcome(answer_sheet(sheet, area))
+}
+
+// A piece, the time from which it holds, and its coefficients of t², t and 1; a straight's first is 0.
+#[repr(C)]
+pub struct PieceResult {
+    // 1 for a straight, 2 for an arc, 0 where there is no piece.
+    pub kind: u64,
+    pub seconds: u64,
+    pub remainder: u64,
+    pub divisor: u64,
+    pub square: f64,
+    pub linear: f64,
+    pub constant: f64,
+}
+
+// Of a drawn question refusal 0 and its one to three pieces in time's order; of a refused one the number, and no piece. What is not used is 0.
+#[repr(C)]
+pub struct DrawingResult {
+    pub refusal: u64,
+    pub pieces: u64,
+    pub first: PieceResult,
+    pub second: PieceResult,
+    pub third: PieceResult,
+}
+
+fn no_piece() -> PieceResult
+    ensures { λ r. ⌜ r ≡ noPiece ⌝ }
+{
+    PieceResult {
+        kind: 0,
+        seconds: 0,
+        remainder: 0,
+        divisor: 0,
+        square: 0.0,
+        linear: 0.0,
+        constant: 0.0,
+    }
+}
+
+fn flat_piece(drawn: DrawnPiece) -> PieceResult
+    ensures { λ r. ⌜ r ≡ flatPiece drawn ⌝ }
+{
+    let from = drawn.from;
+    let piece = drawn.piece;
+    match piece {
+        Piece::Arc(square, linear, constant) => PieceResult {
+            kind: 2,
+            seconds: from.seconds,
+            remainder: from.remainder,
+            divisor: from.divisor,
+            square: square,
+            linear: linear,
+            constant: constant,
+        },
+        Piece::Straight(linear, constant) => PieceResult {
+            kind: 1,
+            seconds: from.seconds,
+            remainder: from.remainder,
+            divisor: from.divisor,
+            square: 0.0,
+            linear: linear,
+            constant: constant,
+        },
+    }
+}
+
+fn flat_drawing(drawing: Drawing) -> DrawingResult
+    ensures { λ r. ⌜ r ≡ flatContent (content drawing) ⌝ }
+{
+    match drawing {
+        Drawing::Refused(number) => DrawingResult {
+            refusal: number as u64,
+            pieces: 0,
+            first: no_piece(),
+            second: no_piece(),
+            third: no_piece(),
+        },
+        Drawing::One(p) => DrawingResult {
+            refusal: 0,
+            pieces: 1,
+            first: flat_piece(p),
+            second: no_piece(),
+            third: no_piece(),
+        },
+        Drawing::Two(p, q) => DrawingResult {
+            refusal: 0,
+            pieces: 2,
+            first: flat_piece(p),
+            second: flat_piece(q),
+            third: no_piece(),
+        },
+        Drawing::Three(p, q, r) => DrawingResult {
+            refusal: 0,
+            pieces: 3,
+            first: flat_piece(p),
+            second: flat_piece(q),
+            third: flat_piece(r),
+        },
+    }
+}
+
+// Draws the lower path of sixteen plain numbers, any 64-bit values.
+#[no_mangle]
+pub extern "C" fn screen_drawing(
+    r: i64,
+    h: i64,
+    c: i64,
+    v: i64,
+    vi: i64,
+    p: i64,
+    k: i64,
+    e: i64,
+    sides: i64,
+    sense: i64,
+    target: i64,
+    upper_target: i64,
+    strength: i64,
+    upper_strength: i64,
+    delay: i64,
+    limit: i64,
+) -> DrawingResult
+    ensures { λ out. ⌜ out ≡ flatContent (screenDrawing (plainEncounter r h c v vi) (plainSettings p k e) (plainQuestion sides sense target «upper_target» strength «upper_strength» delay limit)) ⌝ }
+{
+    let encounter = plain_encounter(r, h, c, v, vi);
+    let settings = plain_settings(p, k, e);
+    let question = plain_question(
+        sides,
+        sense,
+        target,
+        upper_target,
+        strength,
+        upper_strength,
+        delay,
+        limit,
+    );
+    flat_drawing(screen::screen_drawing(encounter, settings, question))
+}
+
+// A screen point and refusal 0, or the refusal's number and two zeros.
+#[repr(C)]
+pub struct PointResult {
+    pub refusal: u64,
+    pub time: f64,
+    pub height: f64,
+}
+
+fn flat_point(answer: PointAnswer) -> PointResult
+    ensures { λ r. ⌜ r ≡ flatPoint answer ⌝ }
+{
+    match answer {
+        PointAnswer::Refused(number) => PointResult {
+            refusal: number as u64,
+            time: 0.0,
+            height: 0.0,
+        },
+        PointAnswer::Drawn(point) => PointResult {
+            refusal: 0,
+            time: point.time,
+            height: point.height,
+        },
+    }
+}
+
+// The screen point of sixteen plain numbers at a second, any 64-bit values.
+#[no_mangle]
+pub extern "C" fn screen_point(
+    r: i64,
+    h: i64,
+    c: i64,
+    v: i64,
+    vi: i64,
+    p: i64,
+    k: i64,
+    e: i64,
+    sides: i64,
+    sense: i64,
+    target: i64,
+    upper_target: i64,
+    strength: i64,
+    upper_strength: i64,
+    delay: i64,
+    limit: i64,
+    second: u64,
+) -> PointResult
+    ensures { λ out. ⌜ out ≡ flatPoint (screenPoint (plainEncounter r h c v vi) (plainSettings p k e) (plainQuestion sides sense target «upper_target» strength «upper_strength» delay limit) second) ⌝ }
+{
+    let encounter = plain_encounter(r, h, c, v, vi);
+    let settings = plain_settings(p, k, e);
+    let question = plain_question(
+        sides,
+        sense,
+        target,
+        upper_target,
+        strength,
+        upper_strength,
+        delay,
+        limit,
+    );
+    flat_point(screen::screen_point(encounter, settings, question, second))
 }

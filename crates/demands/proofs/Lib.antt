@@ -3,3 +3,5 @@ pub mod SheetAnswers
 pub mod ProgramWrites
 pub mod Exported
 pub mod MarkedAnswers
+pub mod ScreenRight
+pub mod ScreenExported

@@ -4,3 +4,4 @@ pub mod PlainAnswer
 pub mod Sheets
 pub mod Program
 pub mod Marked
+pub mod Screen

@@ -1,11 +1,15 @@
 // The customer's demands of every entry. Each function only calls an entry, and its contract is what the demands ask of that entry's result: the checker
 // proves here that the entry's own contract gives it. `specs/` has the demands in the customer's words; demands that no entry answers stand there with their proofs.
 ghost use lib.ListN.{take};
+ghost use Rattle.screen.specs.Drawings.{content};
 ghost use Rattle.binding.specs.PlainNumbers.{plainEncounter, plainSettings, plainQuestion};
 ghost use Rattle.demands.specs.PlainAnswer.{RightlyAnswered, RightlyExported};
 ghost use Rattle.demands.specs.Sheets.{SheetAnswered, outcomeIn};
 ghost use Rattle.demands.specs.Program.{Written};
+ghost use Rattle.demands.specs.Screen.{RightlyDrawn, RightlyPlaced, contentIn, pointIn};
+use binding::DrawingResult;
 use binding::JudgeResult;
+use binding::PointResult;
 use binding::SheetResult;
 use binding::answer_sheet_bytes;
 use binding::judge_plain;
@@ -16,6 +20,8 @@ use program::program_output;
 use question::Encounter;
 use question::Question;
 use question::Settings;
+use screen::Drawing;
+use screen::PointAnswer;
 use sheet::Outcome;
 use sheet::answer_sheet;
 
@@ -86,4 +92,105 @@ pub fn program_output_demanded(sheet: &[u8]) -> Output
     ensures { λ r. ⌜ Written (now (sheet .entry)) (take (r .length) (r .area)) ⌝ }
 {
     program_output(sheet)
+}
+
+// The path on the screen: the drawing, and the point of a second.
+pub fn drawing_demanded(encounter: Encounter, settings: Settings, question: Question) -> Drawing
+    ensures { λ r. ⌜ RightlyDrawn encounter settings question (content r) ⌝ }
+{
+    screen::screen_drawing(encounter, settings, question)
+}
+
+pub fn point_demanded(
+    encounter: Encounter,
+    settings: Settings,
+    question: Question,
+    second: u64,
+) -> PointAnswer
+    ensures { λ r. ⌜ RightlyPlaced encounter settings question second r ⌝ }
+{
+    screen::screen_point(encounter, settings, question, second)
+}
+
+// The same for C and Rust.
+pub fn exported_drawing_demanded(
+    r: i64,
+    h: i64,
+    c: i64,
+    v: i64,
+    vi: i64,
+    p: i64,
+    k: i64,
+    e: i64,
+    sides: i64,
+    sense: i64,
+    target: i64,
+    upper_target: i64,
+    strength: i64,
+    upper_strength: i64,
+    delay: i64,
+    limit: i64,
+) -> DrawingResult
+    ensures { λ out. ⌜ RightlyDrawn (plainEncounter r h c v vi) (plainSettings p k e) (plainQuestion sides sense target «upper_target» strength «upper_strength» delay limit) (contentIn out) ⌝ }
+{
+    binding::screen_drawing(
+        r,
+        h,
+        c,
+        v,
+        vi,
+        p,
+        k,
+        e,
+        sides,
+        sense,
+        target,
+        upper_target,
+        strength,
+        upper_strength,
+        delay,
+        limit,
+    )
+}
+
+pub fn exported_point_demanded(
+    r: i64,
+    h: i64,
+    c: i64,
+    v: i64,
+    vi: i64,
+    p: i64,
+    k: i64,
+    e: i64,
+    sides: i64,
+    sense: i64,
+    target: i64,
+    upper_target: i64,
+    strength: i64,
+    upper_strength: i64,
+    delay: i64,
+    limit: i64,
+    second: u64,
+) -> PointResult
+    ensures { λ out. ⌜ RightlyPlaced (plainEncounter r h c v vi) (plainSettings p k e) (plainQuestion sides sense target «upper_target» strength «upper_strength» delay limit) second (pointIn out) ⌝ }
+{
+    binding::screen_point(
+        r,
+        h,
+        c,
+        v,
+        vi,
+        p,
+        k,
+        e,
+        sides,
+        sense,
+        target,
+        upper_target,
+        strength,
+        upper_strength,
+        delay,
+        limit,
+        second,
+    )
 }

@@ -3,7 +3,11 @@ use mathlib.Core.Path.{ap, _∙_}
 use Rattle.judge.specs.Answers.{answer}
 use Rattle.judge.proofs.AnswerRecords.{record-determines}
 use Rattle.binding.specs.Flat.{flatAnswer}
-use Rattle.binding.proofs.StoredNumbers.{stored-encounter, stored-settings, stored-question, same-result}
+use Rattle.binding.proofs.StoredNumbers.{same-result, stored-result}
+use Rattle.question.specs.declared.Encounter.{Encounter}
+use Rattle.question.specs.declared.Settings.{Settings}
+use Rattle.question.specs.declared.Question.{Question}
+use Rattle.binding.specs.declared.JudgeResult.{JudgeResult}
 use borrow.Author.Needs.{needs}
 use Rattle.binding.proofs.judge_plain.Statement.{statement}
 use Rattle.binding.proofs.judge_plain.Tie as tie
@@ -30,11 +34,14 @@ returns c =
     let s = q .before in
     let e = s .before in
     let f = e .before .fits in
-    same-result
+    let of : Encounter → Settings → Question → JudgeResult = λ x y z. flatAnswer (answer x y z) in
+    stored-result (f .r) (f .h) (f .c) (f .v) (f .vi) (f .p) (f .k) (f .e) (f .sides) (f .sense) (f .target) (f .upper-target) (f .strength) (f .upper-strength) (f .delay) (f .limit)
+    of
+    (same-result of
     (c .flat-answer .ensures ∙ ap flatAnswer (record-determines (j .judge .result) (answer (e .plain-encounter .result) (s .plain-settings .result) (q .plain-question .result)) (j .judge .ensures)))
-    (stored-encounter (f .r) (f .h) (f .c) (f .v) (f .vi) (e .plain-encounter .ensures))
-    (stored-settings (f .p) (f .k) (f .e) (s .plain-settings .ensures))
-    (stored-question (f .sides) (f .sense) (f .target) (f .upper-target) (f .strength) (f .upper-strength) (f .delay) (f .limit) (q .plain-question .ensures))
+    (e .plain-encounter .ensures)
+    (s .plain-settings .ensures)
+    (q .plain-question .ensures))
 
 pub judge-plain-spec : {M : Type 1} → statement M
 judge-plain-spec =

@@ -1,6 +1,7 @@
 -- The exported judge meets the demands: its contract gives the numbers of the answer of the definitions.
-use mathlib.Core.Path.{refl}
-use Rattle.binding.proofs.StoredNumbers.{stored-encounter, stored-settings, stored-question, same-result}
+use Rattle.judge.specs.Answers.{answer}
+use Rattle.binding.specs.Flat.{flatAnswer}
+use Rattle.binding.proofs.StoredNumbers.{stored-result}
 use Rattle.demands.proofs.Exported.{rightly-exported}
 use borrow.Author.Needs.{needs}
 use Rattle.demands.proofs.judge_plain_demanded.Statement.{statement}
@@ -13,10 +14,9 @@ returns : tie.Need-returns
 returns c =
     let f = c .before .fits in
     rightly-exported _ _ _ (c .judge-plain .result)
-    (same-result (c .judge-plain .ensures)
-    (stored-encounter (f .r) (f .h) (f .c) (f .v) (f .vi) refl)
-    (stored-settings (f .p) (f .k) (f .e) refl)
-    (stored-question (f .sides) (f .sense) (f .target) (f .upper-target) (f .strength) (f .upper-strength) (f .delay) (f .limit) refl))
+    (stored-result (f .r) (f .h) (f .c) (f .v) (f .vi) (f .p) (f .k) (f .e) (f .sides) (f .sense) (f .target) (f .upper-target) (f .strength) (f .upper-strength) (f .delay) (f .limit)
+    (λ x y z. flatAnswer (answer x y z))
+    (c .judge-plain .ensures))
 
 pub judge-plain-demanded-spec : {M : Type 1} → statement M
 judge-plain-demanded-spec = tie.close (tie.spec judge-plain-requires returns)

@@ -1,0 +1,3 @@
+pub mod Fields
+pub mod PathPieces
+pub mod ExampleHolds

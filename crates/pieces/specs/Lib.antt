@@ -1,0 +1,4 @@
+pub mod Pieces
+pub mod RightPieces
+pub mod Example
+pub mod inner

@@ -1,0 +1,4 @@
+pub mod Floats
+pub mod Drawings
+pub mod Points
+pub mod RightScreen
