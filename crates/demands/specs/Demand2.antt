@@ -1,5 +1,5 @@
--- Demand 2: "Without a limit the one-sided verdict, with or without delay, equals the region formulas of the article's Figures 3 and 5 in whole numbers; the sixteen
--- advisories have Table 1's sense, target, strength and delay; catalogue and reaction table list identical codes."
+-- Demand 2: without a limit the one-sided verdict, with or without delay, equals the region formulas of the article's Figures 3 and 5 in whole numbers; the sixteen
+-- advisories have Table 1's sense, target, strength and delay; catalogue and reaction table list identical codes.
 use mathlib.Core.Path.{_≡_}
 use mathlib.Core.Logic.{_↔_}
 use mathlib.Core.List.{map, List·Memᴰ}
@@ -42,14 +42,14 @@ pub record CodeDemand2 (x : Encounter) (y : Settings) (code : ℕ) (answer : Ans
   pub figure-5 : ClearIn answer (advisoryRegion x y line)
 
 -- ---- the tables
--- "the sixteen advisories have Table 1's sense, target, strength and delay"
+-- the sixteen advisories have Table 1's sense, target, strength and delay
 pub table-1 : (code : ℕ) → code < 256 → instructionIn (advisedOf code) ≡ printedAt code
 table-1 = tables.advised-is-table-1
 
 pub sixteen : (code : ℕ) → code < 256 → Listed code ↔ CodeWithin 1 16 code
 sixteen = codes.lists-1-to-16
 
--- "catalogue and reaction table list identical codes": a code is listed exactly if one row has it, and every row's code is listed
+-- catalogue and reaction table list identical codes: a code is listed exactly if one row has it, and every row's code is listed
 pub identical-codes : (code : ℕ) → code < 256 → Listed code ↔ (rowsWith reactionTable code ≡ 1)
 identical-codes = tables.listed-has-one-row
 

@@ -1,5 +1,5 @@
--- Demand 3: "The verdict is 'conflict' exactly if a rational conflict time exists (two-sided: on each side); each time shown is one and is the one that document
--- 01's rule picks; 'conflict time' is defined by the paths alone."
+-- Demand 3: the verdict is "conflict" exactly if a rational conflict time exists (two-sided: on each side); each time shown is one and is the one that document
+-- 01's rule picks; "conflict time" is defined by the paths alone.
 use mathlib.Core.Path.{_≡_}
 use mathlib.Core.Bool.{Bool, true, false}
 use mathlib.Core.Logic.{_↔_}
@@ -41,11 +41,11 @@ pub record ConflictAt (side : Side) (s : SensedQuestion) (n m : ℕ) : Type 0 wh
   pub limited : WithinLimit (s .limit) n m
   pub vertical : NotStrictlyBeyond side s n m
 
--- "a rational conflict time exists"
+-- a rational conflict time exists
 abbrev pub SomeConflict : Side → SensedQuestion → Type 0
 SomeConflict side s = (n : ℕ) × (m : ℕ) × ConflictAt side s n m
 
--- "One-sided, the side is the lower one"; "two-sided: on each side"
+-- "One-sided, the side is the lower one"; two-sided, on each side
 abbrev pub ConflictOnEachSide : Bool → SensedQuestion → Type 0
 ConflictOnEachSide false s = SomeConflict Lower s
 ConflictOnEachSide true s = SomeConflict Lower s × SomeConflict Upper s
@@ -91,3 +91,7 @@ one-time = terms.terms-same
 -- "a whole time has remainder 0 and divisor 1"
 pub whole-times : (n m : ℕ) → 0 < m → m ∣ n → (t : Time) → LowestTerms n m t → t ≡ wholeTime (n / m)
 whole-times = terms.terms-whole
+
+-- The form that computes a time gives the only one in lowest terms.
+pub computed-time : (n m : ℕ) → 0 < m → (t : Time) → LowestTerms n m t → t ≡ lowest n m
+computed-time = terms.lowest-unique

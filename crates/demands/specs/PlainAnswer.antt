@@ -1,5 +1,5 @@
--- What the demands ask of the answer to a question of plain numbers: an encounter x, settings y, a question z. Demand 1: "each refusal has its number, condition
--- and effect"; the entry for plain numbers writes no memory.
+-- What the demands ask of the answer to a question of plain numbers: an encounter x, settings y, a question z. Demand 1: each refusal has its number, condition
+-- and effect; the entry for plain numbers writes no memory.
 use mathlib.Core.Path.{_≡_}
 use mathlib.Core.Bool.{cond, false}
 use mathlib.Core.List.{List, [], _∷_, _++_}

@@ -95,14 +95,14 @@ Kept [] (i ∷ k) = ⊥
 Kept (t ∷ l) [] = ⊥
 Kept (t ∷ l) (i ∷ k) = LowestTerms (i .n) (i .m) t × Kept l k
 
--- "The lesson screen draws the lower path. Split it into at most three pieces. Pieces meet where the paths of document 01 change rule."
+-- "The lesson screen draws the lower path"; "at most three pieces"; "Pieces meet where the paths of document 01 change rule"
 pub record DrawsPath (s : SensedQuestion) (l : List DrawnPiece) : Type 0 where
   pub few : length l ≤ 3
   pub start : StartsAt (wholeTime 0) l
   pub meetings : Kept (laterTimes l) (ruleChanges s)
   pub each : EachDraws s l
 
--- "The other refusals are those of the entry for plain numbers."
+-- "the other refusals are those of the entry for plain numbers"
 pub record RightlyDrawn (x : Encounter) (y : Settings) (z : Question) (c : Content) : Type 0 where
   pub refused : (number : ℕ) → refusal x y z ≡ Refused number → c ≡ refused number
   pub drawn : refusal x y z ≡ Accepted → (l : List DrawnPiece) × (c ≡ drawn l) × DrawsPath (sensedQuestion x y z) l

@@ -1,4 +1,4 @@
--- The lower path as pieces, in whole numbers: "Split it into at most three pieces: each piece is an arc or a straight, with its coefficients in t. Heights
+-- The lower path as pieces, in whole numbers: "Split it into at most three pieces: each piece is an arc or a straight". "Heights
 -- are scaled by twice the strength, which makes every coefficient a whole number." (Document 02, "The path on the screen".) A piece is
 -- square × t² + linear × t + constant in t itself, not in the time since the piece begins.
 use mathlib.Core.Bool.{Bool, cond}
@@ -32,7 +32,7 @@ delayPiece s = record {
   constant = pos 0;
 }
 
--- "After d, with s = t − d: while s < G/a, f = f_d + u_d × s + a × s²/2"
+-- "After d, with s = t − d": "while s < G/a, f = f_d + u_d × s + a × s²/2"
 abbrev pub arcPiece : SensedQuestion → WholePiece
 arcPiece s = record {
   from = d s ÷ 1;
@@ -50,7 +50,7 @@ lastPiece s = record {
   constant = heightAfterDelay s -ℤ pos 2 *ℤ pos (a s) *ℤ q s *ℤ pos (d s) -ℤ pos (missingSpeed s) *ℤ pos (missingSpeed s);
 }
 
--- "Pieces of no length are left out": the delay where d is 0, the arc where G is 0
+-- "pieces of no length are left out": the delay where d is 0, the arc where G is 0
 abbrev pub unless : {A : Type 0} → Bool → A → List A → List A
 unless b x l = cond b l (x ∷ l)
 

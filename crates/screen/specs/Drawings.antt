@@ -18,11 +18,11 @@ use Rattle.screen.specs.declared.DrawnPiece.{DrawnPiece}
 use Rattle.screen.specs.declared.Drawing.{Drawing}
 use Rattle.screen.specs.Floats.{float}
 
--- "A piece is a straight exactly if its t² has coefficient 0"; "its coefficients in t as 64-bit floats"
+-- "a piece is a straight exactly if its t² has coefficient 0"; "its coefficients in t as 64-bit floats"
 abbrev pub floatPiece : WholePiece → Piece
 floatPiece p = cond (isNumber (pos 0) (p .square)) (Piece.Straight (float (p .linear)) (float (p .constant))) (Piece.Arc (float (p .square)) (float (p .linear)) (float (p .constant)))
 
--- "At times kept as whole seconds, remainder and divisor", in lowest terms
+-- "at times kept as whole seconds, remainder and divisor", in lowest terms
 abbrev pub drawnPiece : WholePiece → DrawnPiece
 drawnPiece p = record { from = lowest (p .from .n) (p .from .m); piece = floatPiece p }
 
@@ -45,7 +45,7 @@ content (Drawing.One p) = drawn (p ∷ [])
 content (Drawing.Two p q) = drawn (p ∷ q ∷ [])
 content (Drawing.Three p q r) = drawn (p ∷ q ∷ r ∷ [])
 
--- "The other refusals are those of the entry for plain numbers."
+-- "the other refusals are those of the entry for plain numbers"
 abbrev pub checkedContent : Checked → List DrawnPiece → Content
 checkedContent Checked.Accepted l = drawn l
 checkedContent (Checked.Refused n) l = refused n

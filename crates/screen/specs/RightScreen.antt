@@ -46,7 +46,7 @@ abbrev pub RightContent : SensedQuestion → Content → Type 0
 RightContent s (drawn l) = RightDrawing s l
 RightContent s (refused n) = ⊥
 
--- "Every operation on the way is exact": each product and each sum of a piece at the second t
+-- "every operation on the way is exact": each product and each sum of a piece at the second t
 abbrev pub ExactOnTheWay : WholePiece → Piece → ℤ → Float → Type 0
 ExactOnTheWay p (Piece.Straight y z) t x = Exactly (mul binary64 y x) (p .linear *ℤ t) × Exactly (add binary64 (mul binary64 y x) z) (p .linear *ℤ t +ℤ p .constant)
 ExactOnTheWay p (Piece.Arc w y z) t x =
