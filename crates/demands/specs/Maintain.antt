@@ -7,9 +7,6 @@ use lib.Signed.{_<ℤ_}
 use Rattle.question.specs.declared.Encounter.{Encounter}
 use Rattle.question.specs.declared.Settings.{Settings}
 use Rattle.question.specs.declared.Checked.{Checked}
-use Rattle.coded.specs.declared.CodedQuestion.{CodedQuestion}
-use Rattle.coded.specs.Coded.{codedQuestion}
-use Rattle.coded.proofs.EarlierCodes as earlier
 use Rattle.coded.proofs.EarlierCodes.{earlierQuestion}
 use Rattle.judge.specs.declared.Answer.{Answer}
 use Rattle.answering.specs.Replies.{askedAnswer, refusalIn}
@@ -22,10 +19,3 @@ NeverIssued code v = ((code ≡ 10) × (v <ℤ pos 0)) ⊎ ((code ≡ 9) × (pos
 pub record MaintainAnswered (x : Encounter) (y : Settings) (code : ℕ) (limit : ℤ) (r : Answer) : Type 0 where
   pub refused : (refusalIn r ≡ Checked.Refused 17) ↔ NeverIssued code (x .speed)
   pub otherwise : ¬ (refusalIn r ≡ Checked.Refused 17) → r ≡ askedAnswer x y (earlierQuestion code (x .speed) limit)
-
--- ---- the question that a code stands for, for every code, speed and limit
-pub refused-17 : (code : ℕ) (v limit : ℤ) → (codedQuestion code v limit ≡ CodedQuestion.Refused 17) ↔ NeverIssued code v
-refused-17 code v limit = earlier.only-17 code v limit .refused
-
-pub unless-17 : (code : ℕ) (v limit : ℤ) → ¬ (codedQuestion code v limit ≡ CodedQuestion.Refused 17) → codedQuestion code v limit ≡ earlierQuestion code v limit
-unless-17 code v limit = earlier.only-17 code v limit .otherwise
