@@ -450,9 +450,7 @@ pub fn sheets() -> Vec<SheetExample> {
                  04 09 FFFF 04 09 0259 04 0A 0259 04 11 0259 \
                  01 00000000 00000000 00000000 FFFFFFFF FFFFFFFE \
                  04 0A FFFF 04 0A 0259 04 09 0259 04 12 0259 04 0C 0259"),
-            Ok(hex(
-                "44 11 44 11 44 06 44 09 44 11 44 11 44 06 44 09 44 06",
-            )),
+            Ok(hex("44 11 44 11 44 06 44 09 44 11 44 11 44 06 44 09 44 06")),
         ),
         (
             "in level flight code 10 is judged as M10, and code 9 as its mirror image",
