@@ -52,7 +52,7 @@ enum {
     LIFGORUND_NO_LIMIT = 65535
 };
 
-/* Refusals. 1 to 9 and 14 to 16 concern one record, 10 to 13 a whole sheet. The functions of plain numbers give the first that holds of
+/* Refusals. 1 to 9 and 14 to 17 concern one record, 10 to 13 a whole sheet. The functions of plain numbers give the first that holds of
  * 1, 2, 3, 4, 5, 14, 15, 16, 6, in this order. */
 enum {
     LIFGORUND_ACCEPTED = 0,
@@ -71,7 +71,8 @@ enum {
     LIFGORUND_AREA_TOO_SHORT = 13,        /* the answer area is shorter than the whole answer */
     LIFGORUND_BAD_STRENGTH = 14,          /* strength outside limits; two-sided also the upper strength, or one below the strength */
     LIFGORUND_UPPER_TARGET_SHORT = 15,    /* two-sided: the upper target falls short of the target in the sense */
-    LIFGORUND_UPPER_FIELD_GIVEN = 16      /* one-sided: an upper field is not 0 */
+    LIFGORUND_UPPER_FIELD_GIVEN = 16,     /* one-sided: an upper field is not 0 */
+    LIFGORUND_NEVER_ISSUED = 17           /* code 10 (MCL) to an ownship going down, or code 9 (MDES) to one going up */
 };
 
 /* Lengths in bytes: of the longest sheet, and of an area that is long enough for the answer to any sheet. */

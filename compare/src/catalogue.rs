@@ -51,6 +51,15 @@ pub const CATALOGUE: [Advice; 16] = [
     row(16, "SCL2500", Target::Speed(2_500)),
 ];
 
+impl Advice {
+    /// "Maintain" is told where the target is the current v. It is not told against the way that the
+    /// ownship of speed v is going: document 02's 17. Level flight goes neither way.
+    pub fn against(&self, v: i64) -> bool {
+        let way = if self.sense == 1 { v } else { -v };
+        self.target == Target::Current && way < 0
+    }
+}
+
 /// The codes that are named but not judged.
 pub const NAMED_ONLY: [(u8, &str); 2] = [(17, "COC"), (18, "MTLO")];
 

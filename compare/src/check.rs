@@ -23,7 +23,7 @@ const MOMENTS: [(Moment, &str); 5] = [
 ];
 
 /// The refusals of a sheet's records.
-const RECORD_REFUSALS: [u8; 12] = [1, 2, 3, 4, 5, 6, 7, 8, 9, 14, 15, 16];
+const RECORD_REFUSALS: [u8; 13] = [1, 2, 3, 4, 5, 6, 7, 8, 9, 14, 15, 16, 17];
 
 /// Counts of one run, and its first difference.
 pub struct Tally {
@@ -579,7 +579,8 @@ pub fn examples(tally: &mut Tally) -> usize {
     number
 }
 
-/// A coded question on some encounter against the plain numbers of its row of Table 1.
+/// A coded question on some encounter against the plain numbers of its row of Table 1, and against 17
+/// where its code is never issued.
 fn table_1(tally: &mut Tally, row: &Table1, random: &mut Random) {
     let drawn = generate::accepted(random);
     let q = Question {
@@ -597,8 +598,12 @@ fn table_1(tally: &mut Tally, row: &Table1, random: &mut Random) {
     generate::puck_record(&mut bytes, &q);
     generate::delay_acceleration_record(&mut bytes, &q);
     generate::coded_record(&mut bytes, row.code, q.limit);
+    // The draw is accepted, and so 17 comes before its limit alone.
     let mut wanted = Vec::new();
-    judge(&q).record(&mut wanted);
+    match (row.code, q.v) {
+        (10, ..0) | (9, 1..) => Answer::Refused(17).record(&mut wanted),
+        _ => judge(&q).record(&mut wanted),
+    }
     let found = sheet::answer_bytes(&bytes);
     if found.as_ref() != Ok(&wanted) {
         tally.differ(|| {

@@ -435,14 +435,30 @@ pub fn sheets() -> Vec<SheetExample> {
             Ok(hex("43 00000000 00000000 00000001 00000000 00000000 00000001").repeat(3)),
         ),
         (
-            "codes 9 and 10 keep v",
+            "codes 9 and 10 keep v, -100 and 100, of an intruder twice as fast",
             hex(
-                "01 00000000 00075300 00000000 00000064 00000000 04 09 FFFF \
-                 01 00000000 FFF8AD00 00000000 FFFFFF9C 00000000 04 0A FFFF",
+                "01 00000000 00075300 00000000 FFFFFF9C FFFFFF38 04 09 FFFF \
+                 01 00000000 FFF8AD00 00000000 00000064 000000C8 04 0A FFFF",
             ),
             Ok(hex(
                 "42 0000111A 00000000 00000001 42 0000111A 00000000 00000001",
             )),
+        ),
+        (
+            "code 9 going up and code 10 going down get 17, whatever the intruder's speed, after 9 and before 6",
+            hex("01 00000000 00000000 00000000 00000001 00000002 \
+                 04 09 FFFF 04 09 0259 04 0A 0259 04 11 0259 \
+                 01 00000000 00000000 00000000 FFFFFFFF FFFFFFFE \
+                 04 0A FFFF 04 0A 0259 04 09 0259 04 12 0259 04 0C 0259"),
+            Ok(hex("44 11 44 11 44 06 44 09 44 11 44 11 44 06 44 09 44 06")),
+        ),
+        (
+            "in level flight code 10 is judged as M10, and code 9 as its mirror image",
+            sheet(&[
+                m10,
+                "04 0A FFFF 01 00000000 0000A4F1 00000000 00000000 00000000 04 09 FFFF",
+            ]),
+            Ok(hex("42 0000000F 00000000 00000001").repeat(2)),
         ),
         (
             "M12 and M13",

@@ -356,7 +356,61 @@ fn coded_group(
     }
 }
 
-fn coded_groups() -> [Group; 3] {
+/// What codes 9 and 10 stood for before document 02's 17: a free question that keeps the ownship's v.
+pub fn maintained(code: u8, v: i64, vi: i64) -> Question {
+    Question {
+        h: 44_000,
+        v,
+        vi,
+        sense: i64::from(code == 10),
+        target: v,
+        strength: 483,
+        delay: 5,
+        ..BASE
+    }
+}
+
+/// Codes 9 and 10 and the codes beside them around level flight, of intruders that make v - vi of either
+/// sign. The names say what is asked and, after `refuse`, the refusal.
+fn maintain_group() -> Group {
+    let mut cases = Vec::new();
+    for code in [9, 10, 11, 12] {
+        for v in [-1, 0, 1] {
+            for vi in [-5, 0, 5] {
+                let encounter = Question {
+                    h: 44_000,
+                    v,
+                    vi,
+                    ..Question::default()
+                };
+                let question = settings_of(&BASE, encounter);
+                let never = matches!((code, v), (9, 1) | (10, -1));
+                for (limit, otherwise) in [(NO_LIMIT, "accept"), (601, "refuse-6")] {
+                    let answer = if never { "refuse-17" } else { otherwise };
+                    cases.push(Case {
+                        name: format!("{answer}-code-{code}-v{v}-vi{vi}-limit-{limit}"),
+                        question: Question { limit, ..question },
+                        code: Some(code),
+                    });
+                }
+                if never {
+                    cases.push(Case {
+                        name: format!("accept-free-{code}-v{v}-vi{vi}"),
+                        question: maintained(code, v, vi),
+                        code: None,
+                    });
+                }
+            }
+        }
+    }
+    Group {
+        name: "maintain",
+        about: "codes 9 to 12 at v -1, 0 and 1, v - vi of either sign: 17 for 9 going up and 10 going down, before 6; the free questions with their numbers are judged",
+        cases,
+    }
+}
+
+fn coded_groups() -> [Group; 4] {
     let m10 = Question {
         h: -42_225,
         ..Question::default()
@@ -385,6 +439,7 @@ fn coded_groups() -> [Group; 3] {
             above,
             0..20,
         ),
+        maintain_group(),
     ]
 }
 
@@ -536,4 +591,25 @@ pub fn groups() -> Vec<Group> {
     groups.extend(coded_groups());
     groups.extend(field_groups());
     groups
+}
+
+#[cfg(test)]
+mod tests {
+    use super::maintain_group;
+    use crate::independent::Answer;
+
+    #[test]
+    fn maintain_is_refused_as_named() {
+        for case in maintain_group().cases {
+            let named = match case.name.split('-').collect::<Vec<_>>()[..] {
+                ["refuse", number, ..] => number.parse().unwrap(),
+                _ => 0,
+            };
+            let found = match case.answer() {
+                Answer::Refused(number) => number,
+                _ => 0,
+            };
+            assert_eq!(found, named, "{}", case.name);
+        }
+    }
 }

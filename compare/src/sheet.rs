@@ -140,6 +140,9 @@ fn judge(q: &Question) -> Answer {
 /// the refusal of the code.
 pub fn coded_question(q: &Question, code: u8) -> Result<Question, u8> {
     let advice = catalogue::look_up(code)?;
+    if advice.against(q.v) {
+        return Err(17);
+    }
     Ok(Question {
         sides: 1,
         sense: advice.sense,

@@ -1,7 +1,8 @@
 //! Sheets at edges, each with its name: those of the program crate `sheets`.
 
 use crate::examples::{hex, sheets};
-use crate::generate::{coded_record, sheet as generated};
+use crate::generate::{coded_record, encounter_record, free_record, sheet as generated};
+use crate::rows::maintained;
 
 const ENCOUNTER: &str = "01 00000000 FFFFE4A8 00002710 FFFFFC18 00000000";
 const FREE: &str = "05 01 01 00000000 00000000 000001F4 00000000 0000 FFFF";
@@ -30,6 +31,7 @@ pub fn cases() -> Vec<(String, Vec<u8>)> {
         .collect();
     cut_bodies(&mut cases);
     codes(&mut cases);
+    maintain(&mut cases);
     ends_of_fields(&mut cases);
     settings_between(&mut cases);
     long(&mut cases);
@@ -75,6 +77,27 @@ fn codes(cases: &mut Vec<(String, Vec<u8>)>) {
         cases.push((format!("code_{code:03}"), sheet));
     }
     cases.push(("codes_before_encounter".into(), before));
+}
+
+/// Codes 9 and 10, and those beside them, of an ownship that sinks, is level and climbs, with limits that are refused and accepted; then the free questions with
+/// the same numbers.
+fn maintain(cases: &mut Vec<(String, Vec<u8>)>) {
+    for (own, v) in [("sinking", -1), ("level", 0), ("climbing", 1)] {
+        for (intruder, vi) in [("sinking", -5), ("level", 0), ("climbing", 5)] {
+            let free = [9, 10].map(|code| maintained(code, v, vi));
+            let mut sheet = Vec::new();
+            encounter_record(&mut sheet, &free[0]);
+            for code in [0, 7, 8, 9, 10, 11, 12, 17, 18] {
+                for limit in [601, 65_535] {
+                    coded_record(&mut sheet, code, limit);
+                }
+            }
+            for q in &free {
+                free_record(&mut sheet, q);
+            }
+            cases.push((format!("maintain_{own}_intruder_{intruder}"), sheet));
+        }
+    }
 }
 
 /// Each 4-byte field at its first and last value, and one beyond, then a question that shows what is stored.

@@ -233,13 +233,20 @@ fn planted_file() -> File {
         ("upper divisor", conflicts, both(lower, time(34, 2, 6))),
     ];
     cases.push(("right", refused, judge(&refused)));
+    // Code 10 of an ownship that sinks.
+    let maintain = Case {
+        name: "9 for 17".into(),
+        question: Question { v: -1, ..BASE },
+        code: Some(10),
+    };
     File {
         name: "planted".into(),
-        about: "wrong answers: a clear for a conflict and for a refusal, a conflict for a clear, other sides, another refusal, 5, 15 or 6 for 14, 15 or 16, one conflict for two, each number of two times"
+        about: "wrong answers: a clear for a conflict and for a refusal, a conflict for a clear, other sides, another refusal, 5, 15 or 6 for 14, 15 or 16, 9 for 17, one conflict for two, each number of two times"
             .into(),
         cases: cases
             .into_iter()
             .map(|(name, q, answer)| (free(name.into(), q), answer))
+            .chain([(maintain, Answer::Refused(9))])
             .collect(),
         rest: Vec::new(),
     }

@@ -1,4 +1,4 @@
--- "Coded: 7, 8, 9, 6." Free: 7, 4, 5, 14, 15, 16, 6. In every state that a sheet can reach, a question's refusal is the first that its list of tests gives. Assumes nothing.
+-- "Coded: 7, 8, 9, 6.", with 17 "after 9 and before 6". Free: 7, 4, 5, 14, 15, 16, 6. In every state that a sheet can reach, a question's refusal is the first that its list of tests gives. Assumes nothing.
 use mathlib.Core.Path.{_≡_, refl, sym, ap, _∙_}
 use mathlib.Core.Bool.{Bool, true, false, cond, _&&_, _||_}
 use mathlib.Core.Logic.{⊎-elim}
@@ -24,10 +24,11 @@ use Rattle.question.specs.declared.Question.{Question}
 use Rattle.question.specs.declared.Checked.{Checked}
 use Rattle.question.specs.declared.Checked.the-variants.{Accepted, Refused}
 use Rattle.verdict.specs.declared.Verdict.{Verdict}
+use Rattle.coded.specs.declared.CodedQuestion.{CodedQuestion}
 use Rattle.limits.specs.Limits.{distanceWithin, heightWithin, closingSpeedWithin, maxSpeed, speedWithin, minStrength, maxStrength, strengthWithin, maxDelay, delayWithin}
 use Rattle.question.specs.Refusals.{isNumber, encounterWithin, puckWithin, delayAccelerationWithin, sidesKnown, targetsWithin, strengthsWithin, timesWithin, limitAllowed, firstRefusal, questionChecks, refusal}
 use Rattle.sensed.specs.Sensed.{sensedQuestion}
-use Rattle.coded.specs.Coded.{senseNumber, instructed, asked, codedQuestion}
+use Rattle.coded.specs.Coded.{senseNumber, instructed, maintainable, asked, codedQuestion}
 use Rattle.verdict.specs.Verdicts.{verdict}
 use Rattle.judge.specs.Answers.{checkedAnswer, answer}
 use Rattle.integers.proofs.Branches.{picks-yes, picks-no}
@@ -107,10 +108,16 @@ module _ (x : Encounter) (y : Settings) (met : T (encounterWithin x)) (puck : T 
         let z = instructed i (x .speed) limit in
         plain-order z ∙ picks-yes (sidesKnown z) _ _ sides-pass ∙ picks-yes (targetsWithin z) _ _ targets-pass ∙ picks-yes (strengthsWithin z) _ _ strengths-pass ∙ ap (λ (b : Bool). cond b Accepted (Refused 6)) times-by-limit
 
+    -- 17 comes before it
+    maintained-order : (may : Bool)
+        → refusalIn (askedAnswer x y (cond may (CodedQuestion.Asked (instructed i (x .speed) limit)) (CodedQuestion.Refused 17))) ≡ cond may (cond (limitAllowed (instructed i (x .speed) limit)) Accepted (Refused 6)) (Refused 17)
+    maintained-order true = judged-order
+    maintained-order false = refl
+
   asked-order : (code : ℕ) (limit : ℤ) (a : Advised) → ((i : Instruction) → a ≡ Advised.Judged i → InLimits i) → Standing code a
-      → refusalIn (askedAnswer x y (asked a (x .speed) limit)) ≡ firstRefusal (codedChecks (Present x) code limit)
+      → refusalIn (askedAnswer x y (asked code a (x .speed) limit)) ≡ firstRefusal (codedChecks (Present x) code limit)
   asked-order code limit (Advised.Judged i) limits stands =
-      judged-order i (limits i refl) limit
+      maintained-order i (limits i refl) limit (maintainable code (x .speed))
       ∙ sym (picks-yes (codeFrom 1 18 code) _ _ (both (le-leb 1 code (omega arith)) (le-leb code 18 (omega arith))) ∙ picks-yes (codeFrom 1 16 code) _ _ (both (le-leb 1 code (omega arith)) (le-leb code 16 (omega arith))))
   asked-order code limit Advised.NotJudged limits stands =
       sym (picks-yes (codeFrom 1 18 code) _ _ (both (le-leb 1 code (omega arith)) (le-leb code 18 (omega arith))) ∙ picks-no (codeFrom 1 16 code) _ _ (fails-right (leb 1 code) (lt-leb code 16 (omega arith))))
@@ -136,6 +143,6 @@ module _ (st : State) (w : StoredWithin st) where
   pub free-order : (z : Question) → refusalIn (freeAnswer (st .encounter) (st .settings) z) ≡ firstRefusal (freeChecks (st .encounter) z)
   free-order z = free-from (st .encounter) (st .settings) (w .encounter) (w .puck) (w .acceleration) z
 
-  -- "Coded: 7, 8, 9, 6."; a code is a byte
+  -- "Coded: 7, 8, 9, 6.", and 17 "after 9 and before 6"; a code is a byte
   pub coded-order : (code : ℕ) (limit : ℤ) → code < 256 → refusalIn (codedAnswer (st .encounter) (st .settings) code limit) ≡ firstRefusal (codedChecks (st .encounter) code limit)
   coded-order code limit h = coded-from (st .encounter) (st .settings) (w .encounter) (w .puck) (w .acceleration) code limit h

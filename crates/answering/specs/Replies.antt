@@ -13,7 +13,7 @@ use Rattle.judge.specs.declared.Answer.{Answer}
 use Rattle.judge.specs.declared.Answer.the-variants.{Refused}
 use Rattle.limits.specs.Limits.{limitWithin, noLimit}
 use Rattle.question.specs.Refusals.{isNumber, encounterWithin, puckWithin, delayAccelerationWithin, Check, check, questionChecks}
-use Rattle.coded.specs.Coded.{codedQuestion}
+use Rattle.coded.specs.Coded.{maintainable, codedQuestion}
 use Rattle.judge.specs.Answers.{answer}
 use Rattle.record.specs.declared.Record.{Record}
 use Rattle.reply.specs.declared.Reply.{Reply}
@@ -27,12 +27,12 @@ use Rattle.answering.specs.States.{withPuck, withDelayAcceleration}
 abbrev pub settingsReply : Bool → ℕ → Reply
 settingsReply accepted number = cond accepted Silent (Answered (Refused number))
 
--- a question by code that is asked, or its refusal 8 or 9
+-- a question by code that is asked, or its refusal 8, 9 or 17
 abbrev pub askedAnswer : Encounter → Settings → CodedQuestion → Answer
 askedAnswer x y (CodedQuestion.Asked z) = answer x y z
 askedAnswer x y (CodedQuestion.Refused number) = Refused number
 
--- "7 a question before an accepted encounter"; then "8 code outside 1 to 18; 9 code 17 or 18"; then the plain judge's answer
+-- "7 a question before an accepted encounter"; then "8 code outside 1 to 18; 9 code 17 or 18" and 17 by the ownship's speed; then the plain judge's answer
 unfoldable pub codedAnswer : LastEncounter → Settings → ℕ → ℤ → Answer
 codedAnswer Absent y code limit = Refused 7
 codedAnswer (Present x) y code limit = askedAnswer x y (codedQuestion code (x .speed) limit)
@@ -60,12 +60,18 @@ present (Present x) = true
 abbrev pub codeFrom : ℕ → ℕ → ℕ → Bool
 codeFrom low high code = leb low code && leb code high
 
--- "Coded: 7, 8, 9, 6."
+-- whether the ownship's speed can be maintained, as the code asks; without an encounter 7 comes first
+abbrev pub maintained : LastEncounter → ℕ → Bool
+maintained Absent code = true
+maintained (Present x) code = maintainable code (x .speed)
+
+-- "Coded: 7, 8, 9, 6.", and 17 "after 9 and before 6"
 abbrev pub codedChecks : LastEncounter → ℕ → ℤ → List Check
 codedChecks met code limit =
     check 7 (present met)
     ∷ check 8 (codeFrom 1 18 code)
     ∷ check 9 (codeFrom 1 16 code)
+    ∷ check 17 (maintained met code)
     ∷ check 6 (limitWithin limit || isNumber noLimit limit)
     ∷ []
 

@@ -2,7 +2,7 @@
 ghost use mathlib.Core.Path.{_≡_};
 ghost use Rattle.advisory.specs.Catalogue.{rateOf};
 ghost use Rattle.advisory.specs.inner.Codes.{InLimits};
-ghost use Rattle.coded.specs.Coded.{senseNumber, instructed, codedQuestion};
+ghost use Rattle.coded.specs.Coded.{senseNumber, instructed, maintainable, codedQuestion};
 use advisory::Advised;
 use advisory::Instruction;
 use advisory::Sense;
@@ -54,12 +54,23 @@ fn instructed(i: Instruction, v: i64, limit: i64) -> Question
     }
 }
 
-// A question by code as a free one: refusal 9 for codes that are not judged, 8 for unknown ones.
+// MCL, code 10, is never issued to an aircraft going down, and MDES, code 9, never to one going up.
+fn maintainable(code: u8, v: i64) -> bool
+    ensures { λ r. ⌜ r ≡ maintainable code v ⌝ }
+{
+    ((code != 10) | (0 <= v)) & ((code != 9) | (v <= 0))
+}
+
+// A question by code as a free one: refusal 17 for a speed that can't be maintained, 9 for codes that are not judged, 8 for unknown ones.
 pub fn coded_question(code: u8, v: i64, limit: i64) -> CodedQuestion
     ensures { λ r. ⌜ r ≡ codedQuestion code v limit ⌝ }
 {
     match advise(code) {
-        Advised::Judged(i) => CodedQuestion::Asked(instructed(i, v, limit)),
+        Advised::Judged(i) => if maintainable(code, v) {
+            CodedQuestion::Asked(instructed(i, v, limit))
+        } else {
+            CodedQuestion::Refused(17)
+        },
         Advised::NotJudged => CodedQuestion::Refused(9),
         Advised::Unknown => CodedQuestion::Refused(8),
     }

@@ -1,4 +1,5 @@
 pub mod PlainAnswers
+pub mod MaintainAnswers
 pub mod SheetAnswers
 pub mod ProgramWrites
 pub mod Exported

@@ -18,6 +18,7 @@ use Rattle.limits.specs.Limits.{noLimit}
 use Rattle.question.specs.Refusals.{encounterWithin, puckWithin, delayAccelerationWithin}
 use Rattle.coded.specs.declared.CodedQuestion.{CodedQuestion}
 use Rattle.coded.specs.Coded.{codedQuestion}
+use Rattle.coded.proofs.EarlierCodes.{issued}
 use Rattle.integers.proofs.Branches.{picks-yes, picks-no}
 use Rattle.judge.specs.declared.Answer.{Answer}
 use Rattle.judge.specs.Answers.{answer, answerRecord}
@@ -44,9 +45,11 @@ use Rattle.sheet.proofs.RecordsInOrder.{each-record}
 use Rattle.sheet.proofs.WholeSheetRefusals.{refused-in-any-area, too-short, long-enough, refused-unchanged}
 use Rattle.sheet.proofs.OutcomeRecords.{outcome-determines}
 use Rattle.demands.specs.Demand2.{CodeDemand2}
+use Rattle.demands.specs.Maintain.{NeverIssued}
 use Rattle.demands.specs.PlainAnswer.{RightlyAnswered}
 use Rattle.demands.specs.Sheets.{stateThere, AnsweredBy, FreeAnswered, CodedAnswered, RecordAnswered, EachRecord, SheetAnswered}
 use Rattle.demands.proofs.PlainAnswers.{answer-right}
+use Rattle.demands.proofs.MaintainAnswers.{maintain-answered}
 
 -- ---- a record in its place
 module _ (sheet : List ℕ) (earlier : List Record) (given : Record) (later : List Record) (here : records sheet ≡ earlier ++ (given ∷ later)) where
@@ -110,11 +113,11 @@ module _ (sheet : List ℕ) (earlier : List Record) (given : Record) (later : Li
     encounter-within : (met : LastEncounter) (x : Encounter) → met ≡ Present x → states.StoredEncounterWithin met → T (encounterWithin x)
     encounter-within met x e w = subst states.StoredEncounterWithin e w
 
-    coded-region : (x : Encounter) → st .encounter ≡ Present x → CodeWithin 1 16 code → limit ≡ noLimit → CodeDemand2 x (st .settings) code (Coded (st .encounter))
-    coded-region x e range no-limit =
+    coded-region : (x : Encounter) → st .encounter ≡ Present x → CodeWithin 1 16 code → ¬ NeverIssued code (x .speed) → limit ≡ noLimit → CodeDemand2 x (st .settings) code (Coded (st .encounter))
+    coded-region x e range may no-limit =
         let w = stored-within earlier in
         let y = st .settings in
-        let clear = sixteen-codes x y (is-true (encounterWithin x) (encounter-within (st .encounter) x e (w .encounter))) (is-true (puckWithin y) (w .puck)) (is-true (delayAccelerationWithin y) (w .acceleration)) code range in
+        let clear = sixteen-codes x y (is-true (encounterWithin x) (encounter-within (st .encounter) x e (w .encounter))) (is-true (puckWithin y) (w .puck)) (is-true (delayAccelerationWithin y) (w .acceleration)) code range (issued code (x .speed) may) in
         record {
           line = clear .line;
           in-table-1 = clear .in-table-1;
@@ -131,6 +134,7 @@ module _ (sheet : List ℕ) (earlier : List Record) (given : Record) (later : Li
           placed = placed r (reply-of g);
           order = coded-order st (stored-within earlier) code limit byte;
           right = coded-right code limit;
+          maintain = λ x e. maintain-answered st (stored-within earlier) x e code limit byte;
           region = coded-region code limit;
         },
       )

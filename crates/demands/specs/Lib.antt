@@ -1,6 +1,7 @@
 pub mod Demand3
 pub mod Demand2
 pub mod PlainAnswer
+pub mod Maintain
 pub mod Sheets
 pub mod Program
 pub mod Marked

@@ -36,6 +36,7 @@ use Rattle.sheet.specs.Example.{exampleSheet, exampleAnswer}
 use Rattle.sheet.proofs.ExampleHolds as example
 use Rattle.binding.specs.declared.SheetResult.{SheetResult}
 use Rattle.demands.specs.Demand2.{CodeDemand2}
+use Rattle.demands.specs.Maintain.{NeverIssued, MaintainAnswered}
 use Rattle.demands.specs.PlainAnswer.{RightlyAnswered}
 
 -- ---- a record of a sheet: `earlier` are the records before it, `later` those after it
@@ -54,12 +55,14 @@ module _ (answers : List ℕ) (earlier : List Record) (given : Record) (later : 
     pub order : refusalIn r ≡ firstRefusal (freeChecks (stateThere .encounter) z)
     pub right : (x : Encounter) → stateThere .encounter ≡ Present x → RightlyAnswered x (stateThere .settings) z r
 
-  -- a coded question: "Coded: 7, 8, 9, 6"; asked of an encounter, the plain answer to the question that the code stands for, and without a limit Table 1's region
+  -- a coded question: "Coded: 7, 8, 9, 6", and 17 "after 9 and before 6"; asked of an encounter, the plain answer to the question that the code stands for, 17 where it is
+  -- never issued, and "for the accepted ones" Table 1's region without a limit
   pub record CodedAnswered (code : ℕ) (limit : ℤ) (r : Answer) : Type 0 where
     pub placed : AnsweredBy r
     pub order : refusalIn r ≡ firstRefusal (codedChecks (stateThere .encounter) code limit)
     pub right : (x : Encounter) (z : Question) → stateThere .encounter ≡ Present x → codedQuestion code (x .speed) limit ≡ CodedQuestion.Asked z → RightlyAnswered x (stateThere .settings) z r
-    pub region : (x : Encounter) → stateThere .encounter ≡ Present x → CodeWithin 1 16 code → limit ≡ noLimit → CodeDemand2 x (stateThere .settings) code r
+    pub maintain : (x : Encounter) → stateThere .encounter ≡ Present x → MaintainAnswered x (stateThere .settings) code limit r
+    pub region : (x : Encounter) → stateThere .encounter ≡ Present x → CodeWithin 1 16 code → ¬ NeverIssued code (x .speed) → limit ≡ noLimit → CodeDemand2 x (stateThere .settings) code r
 
   -- "1 an encounter field outside its limits; 2 puck; 3 e". A code is a byte.
   pub record RecordAnswered : Type 0 where

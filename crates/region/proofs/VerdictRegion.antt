@@ -1,5 +1,5 @@
 -- The regions are the judge's answer: an accepted question with one side and no limit is called clear exactly where Figure 3 (without a delay) and
--- Figure 5 (with any) hold, and so is every code from 1 to 16, with Table 1's columns in Figure 5. The judge is right about the paths (its Demand3), and
+-- Figure 5 (with any) hold, and so is every code from 1 to 16 that 17 does not refuse, with Table 1's columns in Figure 5. The judge is right about the paths (its Demand3), and
 -- the region theorem is about the paths, so that nothing here speaks of the rule for the time shown. Assumes nothing.
 use mathlib.Core.Path.{_≡_, refl, sym, ap, _∙_, subst}
 use mathlib.Core.Bool.{false, true, _&&_, _||_, cond}
@@ -41,7 +41,7 @@ use Rattle.judge.specs.declared.Answer.{Answer}
 use Rattle.limits.specs.Limits.{distanceWithin, heightWithin, closingSpeedWithin, maxSpeed, speedWithin, targetWithin, strengthWithin, delayWithin, noLimit}
 use Rattle.question.specs.Refusals.{isNumber, twoSided, encounterWithin, puckWithin, delayAccelerationWithin, sidesKnown, targetsWithin, strengthsWithin, timesWithin, refusal}
 use Rattle.sensed.specs.Sensed.{limitOf, sensedQuestion}
-use Rattle.coded.specs.Coded.{senseNumber, instructed, asked, codedQuestion}
+use Rattle.coded.specs.Coded.{senseNumber, instructed, maintainable, asked, codedQuestion}
 use Rattle.verdict.specs.Verdicts.{verdict}
 use Rattle.judge.specs.Answers.{answer, AnswerRecord, answerRecord}
 use Rattle.judge.specs.Demand3.{RightOneSided}
@@ -170,28 +170,28 @@ module _ (x : Encounter) (y : Settings) (encounter : encounterWithin x ≡ true)
     instruction-clear : ClearExactly x y question (advisoryRegion x y i)
     instruction-clear = subst (ClearExactly x y question) same-region (clear-is-delayed-region x y question coded-accepted refl refl)
 
-  -- a code byte that advises something
-  pub advised-code : (code : ℕ) → code < 256 → (i : Instruction) → advisedOf code ≡ Advised.Judged i → CodeClearExactly x y code
+  -- a code byte that advises something, and nothing that the ownship can't maintain
+  pub advised-code : (code : ℕ) → code < 256 → maintainable code (x .speed) ≡ true → (i : Instruction) → advisedOf code ≡ Advised.Judged i → CodeClearExactly x y code
   unfolding codedQuestion
-  advised-code code byte i e =
+  advised-code code byte may i e =
       let limits = in-limits code byte i e in
       record {
         line = i;
         in-table-1 = sym (advised-is-table-1 code byte) ∙ ap instructionIn e;
         question = instructed i (x .speed) noLimit;
-        asked = ap (λ (a : Advised). asked a (x .speed) noLimit) e;
+        asked = ap (λ (a : Advised). asked code a (x .speed) noLimit) e ∙ picks-yes _ _ _ may;
         accepted = coded-accepted i limits;
         clear = instruction-clear i limits;
       }
 
-  -- every one of the sixteen codes
-  pub sixteen-codes : (code : ℕ) → CodeWithin 1 16 code → CodeClearExactly x y code
-  sixteen-codes code range = go (advisedOf code) refl (standing code byte)
+  -- every one of the sixteen codes, unless 17 refuses it
+  pub sixteen-codes : (code : ℕ) → CodeWithin 1 16 code → maintainable code (x .speed) ≡ true → CodeClearExactly x y code
+  sixteen-codes code range may = go (advisedOf code) refl (standing code byte)
     where
       byte : code < 256
       byte = omega (arith, range .1)
 
       go : (a : Advised) → advisedOf code ≡ a → Standing code a → CodeClearExactly x y code
-      go (Advised.Judged i) e stands = advised-code code byte i e
+      go (Advised.Judged i) e stands = advised-code code byte may i e
       go Advised.NotJudged e stands = absurd (omega (arith, range .1, stands .0))
       go Advised.Unknown e stands = absurd (⊎-elim (λ (low : code < 1). omega (arith, range .0)) (λ (high : 18 < code). omega (arith, range .1)) stands)

@@ -16,9 +16,10 @@ use Rattle.question.specs.declared.Checked.the-variants.{Accepted, Refused}
 use Rattle.verdict.specs.declared.Verdict.{Verdict}
 use Rattle.verdict.specs.declared.Verdict.the-variants.{Clear, Conflict, Conflicts}
 use Rattle.judge.specs.declared.Answer.{Answer}
+use Rattle.coded.specs.declared.CodedQuestion.{CodedQuestion}
 use Rattle.question.specs.Refusals.{encounterWithin, puckWithin, delayAccelerationWithin, refusal, twoSided}
 use Rattle.sensed.specs.Sensed.{sensedQuestion}
-use Rattle.coded.specs.Coded.{asked, instructed, codedQuestion}
+use Rattle.coded.specs.Coded.{asked, instructed, maintainable, codedQuestion}
 use Rattle.verdict.specs.Verdicts.{verdict}
 use Rattle.judge.specs.Answers.{checkedAnswer, answer}
 use Rattle.judge.specs.Demand3.{RightOneSided}
@@ -63,15 +64,19 @@ module _ (x : Encounter) (y : Settings) (z : Question) where
       go Checked.Accepted p = verdict-size (verdict z (sensedQuestion x y z)) (one-sided x y z p e)
       go (Checked.Refused n) p = omega arith
 
-asked-size : (x : Encounter) (y : Settings) (a : Advised) (v limit : ℤ) → size (askedAnswer x y (asked a v limit)) ≤ 13
-asked-size x y (Advised.Judged i) v limit = one-sided-size x y (instructed i v limit) refl
-asked-size x y Advised.NotJudged v limit = omega arith
-asked-size x y Advised.Unknown v limit = omega arith
+asked-size : (x : Encounter) (y : Settings) (code : ℕ) (a : Advised) (v limit : ℤ) → size (askedAnswer x y (asked code a v limit)) ≤ 13
+asked-size x y code (Advised.Judged i) v limit = go (maintainable code v)
+  where
+    go : (may : Bool) → size (askedAnswer x y (cond may (CodedQuestion.Asked (instructed i v limit)) (CodedQuestion.Refused 17))) ≤ 13
+    go true = one-sided-size x y (instructed i v limit) refl
+    go false = omega arith
+asked-size x y code Advised.NotJudged v limit = omega arith
+asked-size x y code Advised.Unknown v limit = omega arith
 
 coded-size : (met : LastEncounter) (y : Settings) (code : ℕ) (limit : ℤ) → size (codedAnswer met y code limit) ≤ 13
 unfolding codedAnswer codedQuestion
 coded-size Absent y code limit = omega arith
-coded-size (Present x) y code limit = asked-size x y (advisedOf code) (x .speed) limit
+coded-size (Present x) y code limit = asked-size x y code (advisedOf code) (x .speed) limit
 
 settings-size : (b : Bool) (n : ℕ) → length (replyBytes (settingsReply b n)) ≤ 2
 settings-size true n = omega arith

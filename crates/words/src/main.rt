@@ -105,6 +105,7 @@ fn write_record_refusal(number: u8) {
         ),
         15 => write(b"the upper target falls short of the target in the sense"),
         16 => write(b"the question is one-sided and an upper field is not 0"),
+        17 => write(b"code 10 is not issued to an aircraft going down, nor code 9 to one going up"),
         _ => {}
     }
 }
