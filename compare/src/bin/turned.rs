@@ -69,11 +69,6 @@ const EQUIVALENT: &[Equivalent] = &[
         reason: "0 is its own positive part",
     },
     Equivalent {
-        function: "positive_difference",
-        turned: "((q - u) * ((0 <= q - u) as i64)) as u64",
-        reason: "0 times 1 is 0, as 0 times 0 is",
-    },
-    Equivalent {
         function: "absolute",
         turned: "if x <= 0 {",
         reason: "-0 is 0",
@@ -82,6 +77,11 @@ const EQUIVALENT: &[Equivalent] = &[
         function: "upper_target",
         turned: "if target < u {",
         reason: "of two equal speeds either is the larger",
+    },
+    Equivalent {
+        function: "positive_difference",
+        turned: "((q - u) * ((0 <= q - u) as i64)) as u64",
+        reason: "0 times 1 is 0, as 0 times 0 is",
     },
     Equivalent {
         function: "rule_not_beyond",

@@ -17,10 +17,10 @@ positive-difference-requires : tie.Need-positive-difference-requires
 positive-difference-requires c κs =
     let y = c .before .before in
     let s = y .args .s in
-    let z = y .pre in (
-      operand (q s) maxSpeedDifference (natAbs-in (q s) maxSpeedDifference (z .q-lo) (z .q-hi)) tt,
-      operand (c .speed-after-delay .result) maxSpeedAfterDelay (subst (λ (x : ℤ). natAbs x ≤ maxSpeedAfterDelay) (sym (c .speed-after-delay .ensures)) (after-delay-size s z)) tt,
-    )
+    let z = y .pre in
+    let target = operand (q s) maxSpeedDifference (natAbs-in (q s) maxSpeedDifference (z .q-lo) (z .q-hi)) tt in
+    let speed = operand (c .speed-after-delay .result) maxSpeedAfterDelay (subst (λ (x : ℤ). natAbs x ≤ maxSpeedAfterDelay) (sym (c .speed-after-delay .ensures)) (after-delay-size s z)) tt in
+    search needs
 
 returns : tie.Need-returns
 returns c =
