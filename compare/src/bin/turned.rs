@@ -79,6 +79,11 @@ const EQUIVALENT: &[Equivalent] = &[
         reason: "of two equal speeds either is the larger",
     },
     Equivalent {
+        function: "positive_difference",
+        turned: "((q - u) * ((0 <= q - u) as i64)) as u64",
+        reason: "0 times 1 is 0, as 0 times 0 is",
+    },
+    Equivalent {
         function: "rule_not_beyond",
         turned: "if a * n <= gap * m {",
         reason: "at G/a the arc ends where the straight begins: both comparisons are the same there",

@@ -1,3 +1,4 @@
 -- Definitions that only inner contracts use; an instructor need not read them.
 pub mod Divided
 pub mod RuleSizes
+pub mod DifferenceRange

@@ -5,6 +5,8 @@
 
 ghost use mathlib.Core.Path.{_≡_};
 ghost use Prim.Native.Nat.{_*_, _≤_};
+ghost use lib.IntN.{_-ℤ_, natAbs};
+ghost use Rattle.integers.specs.Extremes.{max0};
 ghost use Rattle.path.specs.declared.Side.the-variants.{Lower, Upper};
 ghost use Rattle.path.specs.Letters.{u, e};
 ghost use Rattle.path.specs.Paths.{delayHeight, u-d, upperTarget};
@@ -12,9 +14,9 @@ ghost use Rattle.path.specs.inner.Tests.{notBeyond};
 ghost use Rattle.path.specs.inner.Sizes.{Sizes, Sized, InReach};
 ghost use Rattle.conflict.specs.inner.Divided.{delayNotBeyond, ruleOf, ruleNotBeyond, missing, arcNotBeyond, straightNotBeyond};
 ghost use Rattle.conflict.specs.inner.RuleSizes.{RuleSizes, mostMissing, mostBend};
+ghost use Rattle.conflict.specs.inner.DifferenceRange.{maxOperand};
 use path::SensedQuestion;
 use path::Side;
-use window::positive_part;
 
 // The speed u_d at the delay's end.
 pub fn speed_after_delay(s: SensedQuestion) -> i64
@@ -109,6 +111,15 @@ fn upper_rule(s: SensedQuestion) -> AdviceRule
     }
 }
 
+// max(0, q − u) without a branch: the difference times 1 where it is above 0, and times 0 where it is not. (docs/LESSON-LARGER.md)
+pub fn positive_difference(q: i64, u: i64) -> u64
+    requires { ⌜ natAbs q ≤ maxOperand ⌝ }
+    requires { ⌜ natAbs u ≤ maxOperand ⌝ }
+    ensures { λ r. ⌜ r ≡ max0 (q -ℤ u) ⌝ }
+{
+    ((q - u) * ((0 < q - u) as i64)) as u64
+}
+
 // G, the speed that is missing; none where the speed exceeds the target, as the path then takes the target at once.
 fn missing_speed(rule: AdviceRule) -> u64
     requires { ⌜ RuleSizes rule ⌝ }
@@ -116,7 +127,7 @@ fn missing_speed(rule: AdviceRule) -> u64
 {
     let target = rule.target;
     let speed = rule.speed;
-    positive_part(target - speed)
+    positive_difference(target, speed)
 }
 
 // While the speed still changes: a·n is below G·m then, which keeps a·n² small. (The instants of both sides are in the upper one's reach.)

@@ -7,3 +7,4 @@ pub mod Program
 pub mod Marked
 pub mod Screen
 pub mod Unchanged
+pub mod Larger

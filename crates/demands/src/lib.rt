@@ -1,11 +1,13 @@
 // The customer's demands of every entry. Each function only calls an entry, and its contract is what the demands ask of that entry's result: the checker
 // proves here that the entry's own contract gives it. `specs/` has the demands in the customer's words; demands that no entry answers stand there with their proofs.
 ghost use lib.ListN.{take};
+ghost use lib.IntN.{pos, _-ℤ_};
 ghost use Rattle.screen.specs.Drawings.{content};
 ghost use Rattle.binding.specs.PlainNumbers.{plainEncounter, plainSettings, plainQuestion};
 ghost use Rattle.demands.specs.PlainAnswer.{RightlyAnswered, RightlyExported};
 ghost use Rattle.demands.specs.Sheets.{SheetAnswered, outcomeIn};
 ghost use Rattle.demands.specs.Program.{Written};
+ghost use Rattle.demands.specs.Larger.{InRange, LargerOfZero};
 ghost use Rattle.demands.specs.Screen.{RightlyDrawn, RightlyPlaced, contentIn, pointIn};
 use binding::DrawingResult;
 use binding::JudgeResult;
@@ -13,6 +15,7 @@ use binding::PointResult;
 use binding::SheetResult;
 use binding::answer_sheet_bytes;
 use binding::judge_plain;
+use conflict::positive_difference;
 use judge::Answer;
 use judge::judge;
 use program::Output;
@@ -193,4 +196,13 @@ pub fn exported_point_demanded(
         limit,
         second,
     )
+}
+
+// "Larger of zero and a difference", the line of arithmetic under every verdict. No entry: the verdict and the drawing call it with q and u_d.
+pub fn positive_difference_demanded(q: i64, u: i64) -> u64
+    requires { ⌜ InRange q ⌝ }
+    requires { ⌜ InRange u ⌝ }
+    ensures { λ r. ⌜ LargerOfZero (q -ℤ u) (pos r) ⌝ }
+{
+    positive_difference(q, u)
 }

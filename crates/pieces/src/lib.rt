@@ -4,11 +4,11 @@ ghost use Prim.Native.Nat.{_≤_};
 ghost use Rattle.instant.specs.Order.{_÷_};
 ghost use Rattle.path.specs.inner.Sizes.{Sizes};
 ghost use Rattle.pieces.specs.Pieces.{heightAfterDelay, missingSpeed, delayPiece, arcPiece, lastPiece, pieceAt, lastSecond};
+use conflict::positive_difference;
 use conflict::speed_after_delay;
 use instant::Instant;
 use instant::no_later;
 use path::SensedQuestion;
-use window::positive_part;
 
 // A piece of path: from when it holds, and the coefficients of t², t and 1, times 2·a.
 pub struct WholePiece {
@@ -37,7 +37,7 @@ pub fn missing_speed(s: SensedQuestion) -> u64
 {
     let q = s.target;
     let u_d = speed_after_delay(s);
-    positive_part(q - u_d)
+    positive_difference(q, u_d)
 }
 
 pub fn delay_piece(s: SensedQuestion) -> WholePiece
