@@ -204,12 +204,12 @@ fn lower_not_beyond(s: SensedQuestion, n: u64, m: u64) -> bool
     requires { ⌜ InReach Lower n m ⌝ }
     ensures { λ r. ⌜ r ≡ notBeyond Lower s n m ⌝ }
 {
+    let rule = advice_rule(Side::Lower, s);
     let d = s.delay;
     let end = d * m;
     if n <= end {
         return delay_not_beyond(Side::Lower, s, n, m);
     }
-    let rule = advice_rule(Side::Lower, s);
     rule_not_beyond(Side::Lower, rule, n - end, m)
 }
 
@@ -219,12 +219,12 @@ fn upper_not_beyond(s: SensedQuestion, n: u64, m: u64) -> bool
     requires { ⌜ InReach Upper n m ⌝ }
     ensures { λ r. ⌜ r ≡ notBeyond Upper s n m ⌝ }
 {
+    let rule = advice_rule(Side::Upper, s);
     let d = s.delay;
     let end = d * m;
     if n <= end {
         return delay_not_beyond(Side::Upper, s, n, m);
     }
-    let rule = advice_rule(Side::Upper, s);
     rule_not_beyond(Side::Upper, rule, n - end, m)
 }
 
