@@ -84,8 +84,8 @@ fn delay_not_beyond(side: Side, s: SensedQuestion, n: u64, m: u64) -> bool
     requires { ⌜ InReach Lower n m ⌝ }
     ensures { λ r. ⌜ r ≡ delayNotBeyond side s n m ⌝ }
 {
-    let height = delay_height(side, s, n, m);
     let edge = edge_height(side, s);
+    let height = delay_height(side, s, n, m);
     let m = m as i64;
     let edge = 2 * m * m * edge;
     match side {
@@ -109,8 +109,8 @@ fn advice_rule(side: Side, s: SensedQuestion) -> AdviceRule
     requires { ⌜ Sized side s ⌝ }
     ensures { λ r. ⌜ r ≡ ruleOf side s ⌝ }
 {
-    let speed = speed_after_delay(side, s);
     let edge = edge_height(side, s);
+    let speed = speed_after_delay(side, s);
     let u = s.speed;
     let d = s.delay as i64;
     let edge = 2 * edge - (u + speed) * d;
@@ -204,12 +204,12 @@ fn lower_not_beyond(s: SensedQuestion, n: u64, m: u64) -> bool
     requires { ⌜ InReach Lower n m ⌝ }
     ensures { λ r. ⌜ r ≡ notBeyond Lower s n m ⌝ }
 {
-    let rule = advice_rule(Side::Lower, s);
     let d = s.delay;
     let end = d * m;
     if n <= end {
         return delay_not_beyond(Side::Lower, s, n, m);
     }
+    let rule = advice_rule(Side::Lower, s);
     rule_not_beyond(Side::Lower, rule, n - end, m)
 }
 
@@ -219,12 +219,12 @@ fn upper_not_beyond(s: SensedQuestion, n: u64, m: u64) -> bool
     requires { ⌜ InReach Upper n m ⌝ }
     ensures { λ r. ⌜ r ≡ notBeyond Upper s n m ⌝ }
 {
-    let rule = advice_rule(Side::Upper, s);
     let d = s.delay;
     let end = d * m;
     if n <= end {
         return delay_not_beyond(Side::Upper, s, n, m);
     }
+    let rule = advice_rule(Side::Upper, s);
     rule_not_beyond(Side::Upper, rule, n - end, m)
 }
 

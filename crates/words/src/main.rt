@@ -96,9 +96,7 @@ fn write_record_refusal(number: u8) {
         5 => write(
             b"a target or a strength is outside its limits, or the upper ones don't fit the question",
         ),
-        6 => write(
-            b"the delay or the limit is outside its limits, or the question is two-sided with a delay",
-        ),
+        6 => write(b"the delay or the limit is outside its limits"),
         7 => write(b"no encounter was accepted before the question"),
         8 => write(b"the code is not one of 1 to 18"),
         9 => write(b"codes 17 and 18 have a name and are not judged"),
