@@ -228,7 +228,7 @@ fn upper_not_beyond(s: SensedQuestion, n: u64, m: u64) -> bool
     rule_not_beyond(Side::Upper, rule, n - end, m)
 }
 
-// Is a side's path "not strictly beyond" the puck's edge at n/m? The sides are two functions, as a question has a side once: one for both costs a hundred instructions a verdict.
+// Is a side's path "not strictly beyond" the puck's edge at n/m?
 pub fn not_beyond(side: Side, s: SensedQuestion, n: u64, m: u64) -> bool
     requires { ⌜ Sized side s ⌝ }
     requires { ⌜ InReach side n m ⌝ }
@@ -237,5 +237,17 @@ pub fn not_beyond(side: Side, s: SensedQuestion, n: u64, m: u64) -> bool
     match side {
         Side::Lower => lower_not_beyond(s, n, m),
         Side::Upper => upper_not_beyond(s, n, m),
+    }
+}
+
+// The same at a whole second. A search has a function of its own to ask, which the compiler repeats in its loop.
+pub fn second_not_beyond(side: Side, s: SensedQuestion, n: u64) -> bool
+    requires { ⌜ Sized side s ⌝ }
+    requires { ⌜ InReach side n 1 ⌝ }
+    ensures { λ r. ⌜ r ≡ notBeyond side s n 1 ⌝ }
+{
+    match side {
+        Side::Lower => lower_not_beyond(s, n, 1),
+        Side::Upper => upper_not_beyond(s, n, 1),
     }
 }
