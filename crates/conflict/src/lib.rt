@@ -86,8 +86,8 @@ fn delay_not_beyond(side: Side, s: SensedQuestion, n: u64, m: u64) -> bool
     requires { ⌜ InReach Lower n m ⌝ }
     ensures { λ r. ⌜ r ≡ delayNotBeyond side s n m ⌝ }
 {
-    let height = delay_height(side, s, n, m);
     let edge = edge_height(side, s);
+    let height = delay_height(side, s, n, m);
     let m = m as i64;
     let edge = 2 * m * m * edge;
     match side {
@@ -111,8 +111,8 @@ fn advice_rule(side: Side, s: SensedQuestion) -> AdviceRule
     requires { ⌜ Sized side s ⌝ }
     ensures { λ r. ⌜ r ≡ ruleOf side s ⌝ }
 {
-    let speed = speed_after_delay(side, s);
     let edge = edge_height(side, s);
+    let speed = speed_after_delay(side, s);
     let u = s.speed;
     let d = s.delay as i64;
     let edge = 2 * edge - (u + speed) * d;
@@ -215,12 +215,12 @@ fn lower_not_beyond(s: SensedQuestion, n: u64, m: u64) -> bool
     requires { ⌜ InReach Lower n m ⌝ }
     ensures { λ r. ⌜ r ≡ notBeyond Lower s n m ⌝ }
 {
-    let rule = advice_rule(Side::Lower, s);
     let d = s.delay;
     let end = d * m;
     if n <= end {
         return delay_not_beyond(Side::Lower, s, n, m);
     }
+    let rule = advice_rule(Side::Lower, s);
     rule_not_beyond(Side::Lower, rule, n - end, m)
 }
 
@@ -230,16 +230,16 @@ fn upper_not_beyond(s: SensedQuestion, n: u64, m: u64) -> bool
     requires { ⌜ InReach Upper n m ⌝ }
     ensures { λ r. ⌜ r ≡ notBeyond Upper s n m ⌝ }
 {
-    let rule = advice_rule(Side::Upper, s);
     let d = s.delay;
     let end = d * m;
     if n <= end {
         return delay_not_beyond(Side::Upper, s, n, m);
     }
+    let rule = advice_rule(Side::Upper, s);
     rule_not_beyond(Side::Upper, rule, n - end, m)
 }
 
-// Is a side's path "not strictly beyond" the puck's edge at n/m? The sides are two functions, as a question has a side once: one for both costs a hundred instructions a verdict.
+// Is a side's path "not strictly beyond" the puck's edge at n/m?
 pub fn not_beyond(side: Side, s: SensedQuestion, n: u64, m: u64) -> bool
     requires { ⌜ Sized side s ⌝ }
     requires { ⌜ InReach side n m ⌝ }
@@ -248,5 +248,17 @@ pub fn not_beyond(side: Side, s: SensedQuestion, n: u64, m: u64) -> bool
     match side {
         Side::Lower => lower_not_beyond(s, n, m),
         Side::Upper => upper_not_beyond(s, n, m),
+    }
+}
+
+// The same at a whole second. A search has a function of its own to ask, which the compiler repeats in its loop.
+pub fn second_not_beyond(side: Side, s: SensedQuestion, n: u64) -> bool
+    requires { ⌜ Sized side s ⌝ }
+    requires { ⌜ InReach side n 1 ⌝ }
+    ensures { λ r. ⌜ r ≡ notBeyond side s n 1 ⌝ }
+{
+    match side {
+        Side::Lower => lower_not_beyond(s, n, 1),
+        Side::Upper => upper_not_beyond(s, n, 1),
     }
 }

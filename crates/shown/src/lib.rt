@@ -13,6 +13,7 @@ ghost use Rattle.path.specs.inner.Sizes.{Sizes, Sized, InReach, searchStart, se
 ghost use Rattle.shown.specs.TimeShown.{approaches, searched, shownFrom, timeShown};
 ghost use Rattle.shown.specs.inner.Steps.{Opened, StartTried, InstantsTried, shownAt, lowestPoint, Searchable, firstReached};
 use conflict::not_beyond;
+use conflict::second_not_beyond;
 use conflict::speed_after_delay;
 use conflict::upper_target;
 use instant::Instant;
@@ -83,7 +84,7 @@ fn first_second(side: Side, s: SensedQuestion) -> u64
     let mut hi = search_end(side, s);
     while hi - lo > 1 {
         let mid = lo + (hi - lo) / 2;
-        if not_beyond(side, s, mid, 1) {
+        if second_not_beyond(side, s, mid) {
             hi = mid;
         } else {
             lo = mid;

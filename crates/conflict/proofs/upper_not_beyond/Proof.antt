@@ -16,50 +16,48 @@ use Rattle.conflict.proofs.upper_not_beyond.Tie as tie
 
 mul-end : tie.Need-mul-end
 mul-end c =
-    let y = c .before in
-    let (z, h) = y .pre in
-    record { fits = omega (arith, mul-le-mul (sizes-of Upper (y .args .s) z .d-hi) (h .m-hi)) }
+    let (z, h) = c .pre in
+    record { fits = omega (arith, mul-le-mul (sizes-of Upper (c .args .s) z .d-hi) (h .m-hi)) }
 
 -- up to d an instant is in the lower side's reach
 delay-not-beyond-requires : tie.Need-delay-not-beyond-requires
 delay-not-beyond-requires c κs =
-    let y = c .before .before in
+    let y = c .before in
     let (z, h) = y .pre in
     let sizes = sizes-of Upper (y .args .s) z in
     (sizes, record { n-hi = omega (arith, c .if1 .taken, mul-le-mul (sizes .d-hi) (h .m-hi)); m-lo = h .m-lo; m-hi = h .m-hi })
 
 returns : tie.Need-returns
 returns c =
-    let y = c .before .before .before in
+    let y = c .before .before in
     c .delay-not-beyond .ensures ∙ delay-divided Upper (y .args .s) (y .args .n) (y .args .m) (y .pre .0) (c .before .if1 .taken)
 
 rule-not-beyond-requires : tie.Need-rule-not-beyond-requires
 rule-not-beyond-requires c κs =
-    let x = c .before in
-    let y = x .before in
+    let y = c .before .before in
     let s = y .args .s in
     let (z, h) = y .pre in
-    rw (x .advice-rule .ensures) (rule-sizes Upper s z, (missing-most Upper s z, record { n-hi = omega (arith, h .n-hi); m-lo = h .m-lo; m-hi = h .m-hi }))
+    rw (c .advice-rule .ensures) (rule-sizes Upper s z, (missing-most Upper s z, record { n-hi = omega (arith, h .n-hi); m-lo = h .m-lo; m-hi = h .m-hi }))
 
 returns-2 : tie.Need-returns-2
 returns-2 c =
-    let x = c .before .before in
-    let y = x .before in
+    let x = c .before in
+    let y = x .before .before in
     let s = y .args .s in
     let n = y .args .n in
     let m = y .args .m in
     c .rule-not-beyond .ensures
     ∙ ap (λ (rule : AdviceRule). ruleNotBeyond Upper rule (n - s .delay * m) m) (x .advice-rule .ensures)
-    ∙ rule-divided Upper s n m (omega (arith, c .before .if1 .left))
+    ∙ rule-divided Upper s n m (omega (arith, x .before .if1 .left))
 
 pub upper-not-beyond-spec : {M : Type 1} → statement M
 upper-not-beyond-spec =
     tie.close
     (tie.spec
-    (λ c κs. search needs)
     mul-end
     delay-not-beyond-requires
     returns
+    (λ c κs. search needs)
     (λ c. search needs)
     rule-not-beyond-requires
     returns-2)
