@@ -797,6 +797,14 @@ fn two_sided_delays() -> Vec<(&'static str, Question, Answer)> {
         v: 100,
         ..TWO
     };
+    // The window ends at 30.
+    let turning_below = Question {
+        c: 1_000,
+        target: 1_500,
+        upper_target: 1_500,
+        strength: 483,
+        ..slow
+    };
     let turning = Question {
         v: -1_000,
         e: 1_000,
@@ -980,37 +988,11 @@ fn two_sided_delays() -> Vec<(&'static str, Question, Answer)> {
             both(0, 10),
         ),
         // the delay on both sides: the lower path turns at 15 at −36,225, as M10's
-        (
-            "both-paths",
-            Question {
-                h: -42_225,
-                target: 1_500,
-                upper_target: 1_500,
-                strength: 483,
-                ..slow
-            },
-            both(15, 0),
-        ),
-        (
-            "both-paths-clear",
-            Question {
-                h: -42_226,
-                target: 1_500,
-                upper_target: 1_500,
-                strength: 483,
-                ..slow
-            },
-            lower_clear,
-        ),
+        ("both-paths", at(-42_225, turning_below), both(15, 0)),
+        ("both-paths-clear", at(-42_226, turning_below), lower_clear),
         (
             "both-paths-descend",
-            turned(Question {
-                h: -42_225,
-                target: 1_500,
-                upper_target: 1_500,
-                strength: 483,
-                ..slow
-            }),
+            turned(at(-42_225, turning_below)),
             both(15, 0),
         ),
         // −1,000 t + 500 t²: 1,500 at 3; −375 at 1/2 and at 3/2, less between them
