@@ -163,6 +163,7 @@ edges! {
     UpperDelayTurns: "two-sided, j turns in the delay",
     UpperDelayPassesTarget: "two-sided, upper q above u, and below u + e d",
     UpperDelayNoEnd: "two-sided, d > 0, window without end",
+    UpperLevelNoEnd: "two-sided, window without end, upper q = 0, upper side clear",
     UpperLimitBeforeDelay: "two-sided, limit before d",
     UpperLimitAtDelay: "two-sided, limit at d, d > 0",
     UpperLimitAfterDelay: "two-sided, limit after d, d > 0",
@@ -736,6 +737,10 @@ fn upper_delay(set: &mut Set, q: &Question, x: &Accepted, upper: Upper) {
         return;
     };
     set.add_if(x.d > 0 && window.end.is_none(), Edge::UpperDelayNoEnd);
+    set.add_if(
+        window.end.is_none() && upper.q == 0 && x.upper_shown(upper).is_none(),
+        Edge::UpperLevelNoEnd,
+    );
     if x.d > 0 {
         set.add_ends(
             window,

@@ -217,8 +217,10 @@ fn stay(random: &mut Random, q: &mut Question) {
             q.target = q.vi;
             q.upper_target = q.vi + w * slow(random);
         }
-        if random.chance(1, 8) {
-            longest_above(random, q);
+        match random.below(8) {
+            0 => longest_above(random, q),
+            1 => level_above(random, q),
+            _ => {}
         }
     }
 }
@@ -235,6 +237,14 @@ fn longest_above(random: &mut Random, q: &mut Question) {
     q.upper_target = w * 10_000;
     q.strength = 1;
     q.upper_strength = 1;
+}
+
+/// Never towards the intruder: the upper path sinks, and at last keeps level with it.
+fn level_above(random: &mut Random, q: &mut Question) {
+    let w = if q.sense == 1 { 1 } else { -1 };
+    q.e = 0;
+    q.v = q.vi - w * random.between(0, 300);
+    q.upper_target = q.vi;
 }
 
 fn targets(random: &mut Random, q: &mut Question) {
@@ -373,7 +383,9 @@ fn height(random: &mut Random, q: &mut Question, favour: Favour) {
         Ratio::whole(i128::from(random.between(0, 1 << size)))
     };
     let end = end.unwrap_or(second);
+    let level = x.upper.is_some_and(|upper| upper.q == 0);
     let t = match (favour, random.below(6)) {
+        (Favour::NoEnd, _) if level => start,
         (Favour::Turning, 0..=3) => x.turning(),
         (Favour::NoEnd, 0..=3) => end,
         (_, 0 | 1) => start,
