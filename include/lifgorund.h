@@ -102,7 +102,7 @@ JudgeResult judge_plain(
     int64_t vi,             /* the intruder's vertical speed, in grains/s. -10,000 to 10,000 */
     int64_t p,              /* the puck's radius, in grains. 0 to 60,000; a sheet starts with 30,000 */
     int64_t k,              /* the puck's half height, in grains. 1 to 12,000; a sheet starts with 6,000 */
-    int64_t e,              /* acceleration during the delay, in grains/s^2: against the advice on the lower path, towards it on the upper. 0 to 2,000; a sheet starts with 966 */
+    int64_t e,              /* acceleration during the delay, against the advice, on the upper path towards it, in grains/s^2. 0 to 2,000; a sheet starts with 966 */
     int64_t sides,          /* LIFGORUND_ONE_SIDED or LIFGORUND_TWO_SIDED */
     int64_t sense,          /* LIFGORUND_DESCEND or LIFGORUND_CLIMB */
     int64_t target,         /* the vertical speed to reach, positive upwards in both senses, in grains/s. -10,000 to 10,000 */

@@ -855,7 +855,18 @@ fn two_sided_delays() -> Vec<(&'static str, Question, Answer)> {
         delay: 60,
         ..TWO
     };
+    // The window is from 5 to 11.
+    let proved = Question {
+        r: 80_000,
+        c: 10_000,
+        delay: 8,
+        ..TWO
+    };
     vec![
+        // the examples that are proved
+        ("D1", at(60_097, proved), upper_clear),
+        ("D2", at(60_096, proved), both(5, 11)),
+        ("D3", at(30_000, proved), both(5, 11)),
         // a limit inside the delay, at d and after it; the delay longer than the limit
         ("limit-in-delay", at(13_728, until(4, slow)), both(0, 4)),
         (
@@ -1061,7 +1072,7 @@ fn two_sided_delays_group() -> Group {
         .collect();
     group(
         "two_sided_delays",
-        "two-sided with a delay: limits around d, e = 0, the speed reached around the upper target, no end, d no instant of the upper side, both paths, the longest search, the largest numbers",
+        "two-sided with a delay: the proved examples D1 to D3, limits around d, e = 0, the speed reached around the upper target, no end, d no instant of the upper side, both paths, the longest search, the largest numbers",
         questions,
     )
 }

@@ -84,8 +84,8 @@ fn delay_not_beyond(side: Side, s: SensedQuestion, n: u64, m: u64) -> bool
     requires { ⌜ InReach Lower n m ⌝ }
     ensures { λ r. ⌜ r ≡ delayNotBeyond side s n m ⌝ }
 {
-    let height = delay_height(side, s, n, m);
     let edge = edge_height(side, s);
+    let height = delay_height(side, s, n, m);
     let m = m as i64;
     let edge = 2 * m * m * edge;
     match side {
@@ -109,8 +109,8 @@ fn advice_rule(side: Side, s: SensedQuestion) -> AdviceRule
     requires { ⌜ Sized side s ⌝ }
     ensures { λ r. ⌜ r ≡ ruleOf side s ⌝ }
 {
-    let speed = speed_after_delay(side, s);
     let edge = edge_height(side, s);
+    let speed = speed_after_delay(side, s);
     let u = s.speed;
     let d = s.delay as i64;
     let edge = 2 * edge - (u + speed) * d;

@@ -147,7 +147,7 @@ module _ (b e d M : ℕ) (u Q : ℤ) (reached : (u +ℤ pos e *ℤ pos d) ≤ℤ
   upper-valley = joined-valley b (delayHeight (pos e) u) d 1 (adviceGain b Q v) (λ m. gain-zero b m Q v) M delay-valley rule-valley
       (⊎-elim (λ (h : v <ℤ pos 0). inl (delay-falling (<ℤ-≤ℤ h))) (λ (h : pos 0 ≤ℤ v). inr (rule-rising h)) (split< v (pos 0)))
 
-  upper-falling : Q ≤ℤ pos 0 → Falling (λ n. upward n M)
+  pub upper-falling : Q ≤ℤ pos 0 → Falling (λ n. continued b (delayHeight (pos e) u) d 1 (adviceGain b Q (u +ℤ pos e *ℤ pos d)) n M)
   upper-falling h = joined-falling b (delayHeight (pos e) u) d 1 (adviceGain b Q v) (λ m. gain-zero b m Q v) M (delay-falling (≤ℤ-trans reached h)) (λ x z l. gain-sinks b x z M Q v h l)
 
   upper-shape : Shape (λ n m. negℤ (upward n m)) [] (pos 0 <ℤ Q) M
@@ -169,6 +169,9 @@ module _ (b e d M : ℕ) (u Q : ℤ) (reached : (u +ℤ pos e *ℤ pos d) ≤ℤ
 pub upper-scale : (s : SensedQuestion) (n m x : ℕ) → upperPath s (n * x) (m * x) ≡ pos x *ℤ pos x *ℤ upperPath s n m
 upper-scale s = continued-scale (s .«upper_strength») (delayHeight (pos (s .«delay_acceleration»)) (s .speed)) (s .delay) 1 (adviceGain (s .«upper_strength») (upperTarget s) (speedReached s)) (λ m. gain-zero (s .«upper_strength») m (upperTarget s) (speedReached s))
     (λ n m x. delay-scale (pos (s .«delay_acceleration»)) n m x (s .speed)) (λ n m x. gain-scale (s .«upper_strength») n m x (upperTarget s) (speedReached s))
+
+pub upper-edge-scale : (s : SensedQuestion) (m x : ℕ) → upperEdge s (m * x) ≡ pos x *ℤ pos x *ℤ upperEdge s m
+upper-edge-scale s m x = ring (s .«upper_strength» ∷ m ∷ x ∷ s .«half_height» ∷ []) (s .level ∷ []) (λ v. search quote depth 20) tt
 
 -- ---- the two profiles
 pub path-divisor : (side : Side) (s : SensedQuestion) → Sized side s → (t : Instant) → Among t (pathInstants side s) → 0 < t .m
@@ -205,7 +208,7 @@ profile Upper s z = record {
   height = λ n m. negℤ (upperPath s n m);
   edge = λ m. negℤ (upperEdge s m);
   height-scale = λ n m x. turned-scale x (upperPath s (n * x) (m * x)) (upperPath s n m) (upper-scale s n m x);
-  edge-scale = λ m x. ring (s .«upper_strength» ∷ m ∷ x ∷ s .«half_height» ∷ []) (s .level ∷ []) (λ v. search quote depth 20) tt;
+  edge-scale = λ m x. turned-scale x (upperEdge s (m * x)) (upperEdge s m) (upper-edge-scale s m x);
   mids = pathInstants Upper s;
   sinks = Approaches Upper s;
   shape = λ M p f. upper-shape (s .«upper_strength») (s .«delay_acceleration») (s .delay) M (s .speed) (upperTarget s) (maxℤ-right (s .«upper_target») (speedReached s));

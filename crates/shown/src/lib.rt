@@ -3,7 +3,7 @@ ghost use mathlib.Core.Path.{_≡_};
 ghost use mathlib.Core.List.{_++_};
 ghost use Rattle.instant.specs.declared.Moment.the-variants.{At, Never};
 ghost use Rattle.instant.specs.Order.{_÷_};
-ghost use Rattle.path.specs.declared.Side.the-variants.{Lower};
+ghost use Rattle.path.specs.declared.Side.the-variants.{Lower, Upper};
 ghost use Rattle.path.specs.Letters.{q, a, d};
 ghost use Rattle.path.specs.Paths.{u-d};
 ghost use Rattle.path.specs.Window.{windowStart, windowEnd};
@@ -202,6 +202,18 @@ fn from_delay(s: SensedQuestion, start: Instant) -> Moment
     from_lowest(s, start)
 }
 
+// After the window's start on the upper side. A path that does not approach falls throughout.
+fn from_start(s: SensedQuestion) -> Moment
+    requires { ⌜ Sized Upper s ⌝ }
+    requires { ⌜ Opened s × StartTried Upper s ⌝ }
+    ensures { λ t. ⌜ t ≡ shownFrom Upper s (asList (windowEnd s)) ⌝ }
+{
+    if !approaching(Side::Upper, s) {
+        return Moment::Never;
+    }
+    from_end(Side::Upper, s)
+}
+
 // The time shown on a side of a window that opens at a start. Between the start and the end only the lower path has instants.
 pub fn time_shown(side: Side, s: SensedQuestion, start: Instant) -> Moment
     requires { ⌜ Sized side s ⌝ }
@@ -213,6 +225,6 @@ pub fn time_shown(side: Side, s: SensedQuestion, start: Instant) -> Moment
     }
     match side {
         Side::Lower => from_delay(s, start),
-        Side::Upper => from_end(Side::Upper, s),
+        Side::Upper => from_start(s),
     }
 }

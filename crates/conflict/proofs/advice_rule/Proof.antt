@@ -14,10 +14,10 @@ sizes : (c : tie.Start) → Sizes (c .args .s)
 sizes c = sizes-of (c .args .side) (c .args .s) (c .pre)
 
 abbrev speed-read : (c : tie.After-speed-after-delay) → Reading (c .speed-after-delay .result)
-speed-read c = let y = c .before in read-speed-after-delay (y .args .s) (sizes y) (y .args .side) (c .speed-after-delay .ensures)
+speed-read c = let y = c .before .before in read-speed-after-delay (y .args .s) (sizes y) (y .args .side) (c .speed-after-delay .ensures)
 
 abbrev edge-read : (c : tie.After-edge-height) → Reading (c .edge-height .result)
-edge-read c = let y = c .before .before in read-edge-height (y .args .s) (sizes y) (y .args .side) (c .edge-height .ensures)
+edge-read c = let y = c .before in read-edge-height (y .args .s) (sizes y) (y .args .side) (c .edge-height .ensures)
 
 returns : tie.Need-returns
 returns c =
@@ -26,8 +26,8 @@ returns c =
     let side = y .before .args .side in
     let s = y .before .args .s in
     let z = sizes (y .before) in
-    let edge = edge-read x in
-    let speed = speed-read y in
+    let edge = edge-read y in
+    let speed = speed-read x in
     let is = sym (c .before .enum-told .given .1) in
     same-rule (ap (λ (side : Side). strengthOf side s) is) (result (search numbers depth 20) tt ∙ ap (λ (side : Side). targetOf side s) is) (result (search numbers depth 20) tt) (result (search numbers depth 20) tt ∙ rule-edge-is s z side)
 
@@ -38,8 +38,8 @@ returns-2 c =
     let side = y .before .args .side in
     let s = y .before .args .s in
     let z = sizes (y .before) in
-    let edge = edge-read x in
-    let speed = speed-read y in
+    let edge = edge-read y in
+    let speed = speed-read x in
     let target = read-call (sfits-of (c .upper-target .ok)) (c .upper-target .ensures) in
     let is = sym (c .before .enum-told2 .given .1) in
     same-rule (ap (λ (side : Side). strengthOf side s) is) (result (search numbers depth 20) tt ∙ ap (λ (side : Side). targetOf side s) is) (result (search numbers depth 20) tt) (result (search numbers depth 20) tt ∙ rule-edge-is s z side)
@@ -52,10 +52,10 @@ advice-rule-spec =
     (λ c κs. sizes (c .before))
     (λ c. let z = sizes (c .before .before .before .before) in search needs)
     -- the edge
-    (λ c. let x = c .before .before in let edge = edge-read x in fits (search numbers depth 20) tt)
-    (λ c. let y = c .before .before .before in let z = sizes (y .before) in let speed = speed-read y in fits (search numbers depth 20) tt)
-    (λ c. let y = c .before .before .before in let z = sizes (y .before) in let speed = speed-read y in fits (search numbers depth 20) tt)
-    (λ c. let x = c .before .before in let y = x .before in let z = sizes (y .before) in let edge = edge-read x in let speed = speed-read y in fits (search numbers depth 20) tt)
+    (λ c. let edge = edge-read (c .before .before .before) in fits (search numbers depth 20) tt)
+    (λ c. let x = c .before .before in let z = sizes (x .before .before) in let speed = speed-read x in fits (search numbers depth 20) tt)
+    (λ c. let x = c .before .before in let z = sizes (x .before .before) in let speed = speed-read x in fits (search numbers depth 20) tt)
+    (λ c. let x = c .before .before in let y = x .before in let z = sizes (y .before) in let edge = edge-read y in let speed = speed-read x in fits (search numbers depth 20) tt)
     -- the arms
     (λ c. search needs)
     (λ c. search needs)

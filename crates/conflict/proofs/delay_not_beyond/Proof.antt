@@ -7,15 +7,15 @@ use Rattle.conflict.proofs.delay_not_beyond.Statement.{statement}
 use Rattle.conflict.proofs.delay_not_beyond.Tie as tie
 
 abbrev edge-read : (c : tie.After-edge-height) → Reading (c .edge-height .result)
-edge-read c = let y = c .before .before in read-edge-height (y .args .s) (y .pre .0) (y .args .side) (c .edge-height .ensures)
+edge-read c = let y = c .before in read-edge-height (y .args .s) (y .pre .0) (y .args .side) (c .edge-height .ensures)
 
 returns : tie.Need-returns
 returns c =
     let x = c .before .before in
     let y = x .before in
     let (z, h) = y .before .pre in
-    let height = read-call (sfits-of (y .delay-height .ok)) (y .delay-height .ensures) in
-    let edge = edge-read x in
+    let height = read-call (sfits-of (x .delay-height .ok)) (x .delay-height .ensures) in
+    let edge = edge-read y in
     plain (search numbers depth 20) tt ∙ lower-comparison _ _ (c .enum-told .given .1)
 
 returns-2 : tie.Need-returns-2
@@ -23,8 +23,8 @@ returns-2 c =
     let x = c .before .before in
     let y = x .before in
     let (z, h) = y .before .pre in
-    let height = read-call (sfits-of (y .delay-height .ok)) (y .delay-height .ensures) in
-    let edge = edge-read x in
+    let height = read-call (sfits-of (x .delay-height .ok)) (x .delay-height .ensures) in
+    let edge = edge-read y in
     plain (search numbers depth 20) tt ∙ upper-comparison _ _ (c .enum-told2 .given .1)
 
 pub delay-not-beyond-spec : {M : Type 1} → statement M
@@ -37,7 +37,7 @@ delay-not-beyond-spec =
     -- the edge, times 2 × m²
     (λ c. let (z, h) = c .before .before .pre in fits (search numbers depth 20) tt)
     (λ c. let (z, h) = c .before .before .pre in fits (search numbers depth 20) tt)
-    (λ c. let (z, h) = c .before .before .pre in let edge = edge-read c in fits (search numbers depth 20) tt)
+    (λ c. let (z, h) = c .before .before .pre in let edge = edge-read (c .before) in fits (search numbers depth 20) tt)
     -- the arms
     (λ c. search needs)
     (λ c. search needs)

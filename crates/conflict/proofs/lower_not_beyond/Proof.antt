@@ -17,20 +17,20 @@ use Rattle.conflict.proofs.lower_not_beyond.Tie as tie
 mul-end : tie.Need-mul-end
 mul-end c =
     let (z, h) = c .pre in
-    record { fits = omega (arith, mul-le-mul (sizes-of (Lower) (c .args .s) z .d-hi) (h .m-hi)) }
+    record { fits = omega (arith, mul-le-mul (sizes-of Lower (c .args .s) z .d-hi) (h .m-hi)) }
 
 -- up to d an instant is in the lower side's reach
 delay-not-beyond-requires : tie.Need-delay-not-beyond-requires
 delay-not-beyond-requires c κs =
     let y = c .before in
     let (z, h) = y .pre in
-    let sizes = sizes-of (Lower) (y .args .s) z in
+    let sizes = sizes-of Lower (y .args .s) z in
     (sizes, record { n-hi = omega (arith, c .if1 .taken, mul-le-mul (sizes .d-hi) (h .m-hi)); m-lo = h .m-lo; m-hi = h .m-hi })
 
 returns : tie.Need-returns
 returns c =
     let y = c .before .before in
-    c .delay-not-beyond .ensures ∙ delay-divided (Lower) (y .args .s) (y .args .n) (y .args .m) (y .pre .0) (c .before .if1 .taken)
+    c .delay-not-beyond .ensures ∙ delay-divided Lower (y .args .s) (y .args .n) (y .args .m) (y .pre .0) (c .before .if1 .taken)
 
 rule-not-beyond-requires : tie.Need-rule-not-beyond-requires
 rule-not-beyond-requires c κs =
