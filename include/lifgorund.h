@@ -61,7 +61,7 @@ enum {
     LIFGORUND_BAD_DELAY_ACCELERATION = 3, /* e is outside its limits */
     LIFGORUND_BAD_SIDES = 4,              /* sides or sense is unknown */
     LIFGORUND_BAD_TARGET = 5,             /* target outside limits; two-sided also the upper target */
-    LIFGORUND_BAD_TIMES = 6,              /* delay or limit outside limits, or a delay when two-sided; of a point also a second above 600 */
+    LIFGORUND_BAD_TIMES = 6,              /* delay or limit outside limits; of a point also a second above 600 */
     LIFGORUND_NO_ENCOUNTER = 7,           /* a question before an accepted encounter */
     LIFGORUND_UNKNOWN_CODE = 8,           /* a code outside 1 to 18 */
     LIFGORUND_CODE_NOT_JUDGED = 9,        /* code 17 or 18 */
@@ -103,14 +103,14 @@ JudgeResult judge_plain(
     int64_t vi,             /* the intruder's vertical speed, in grains/s. -10,000 to 10,000 */
     int64_t p,              /* the puck's radius, in grains. 0 to 60,000; a sheet starts with 30,000 */
     int64_t k,              /* the puck's half height, in grains. 1 to 12,000; a sheet starts with 6,000 */
-    int64_t e,              /* acceleration against the advice during the delay, in grains/s^2. 0 to 2,000; a sheet starts with 966 */
+    int64_t e,              /* acceleration during the delay, against the advice, on the upper path towards it, in grains/s^2. 0 to 2,000; a sheet starts with 966 */
     int64_t sides,          /* LIFGORUND_ONE_SIDED or LIFGORUND_TWO_SIDED */
     int64_t sense,          /* LIFGORUND_DESCEND or LIFGORUND_CLIMB */
     int64_t target,         /* the vertical speed to reach, positive upwards in both senses, in grains/s. -10,000 to 10,000 */
     int64_t upper_target,   /* two-sided: the same for the upper path; one-sided: 0 */
     int64_t strength,       /* acceleration towards the target, in grains/s^2. 1 to 2,000 */
     int64_t upper_strength, /* two-sided: the same for the upper path, at least the strength; one-sided: 0 */
-    int64_t delay,          /* before the advice is followed, in whole seconds. 0 to 60; two-sided 0 */
+    int64_t delay,          /* before the advice is followed, in whole seconds. 0 to 60 */
     int64_t limit);         /* until when to judge, in whole seconds. 0 to 600, or LIFGORUND_NO_LIMIT */
 
 /* The kinds of a piece of path: the degree of its polynomial. */

@@ -3,7 +3,7 @@ ghost use mathlib.Core.Path.{_≡_};
 ghost use mathlib.Core.Bool.{_&&_};
 ghost use lib.Signed.{leZ};
 ghost use Rattle.limits.specs.Limits.{strengthWithin, delayWithin};
-ghost use Rattle.question.specs.Refusals.{targetsWithin, strengthsOrdered, strengthsWithin, targetsOrdered, upperTargetInSense, upperZero, upperUnused, noDelay, limitAllowed, timesWithin, questionChecks, firstRefusal, refusal};
+ghost use Rattle.question.specs.Refusals.{targetsWithin, strengthsOrdered, strengthsWithin, targetsOrdered, upperTargetInSense, upperZero, upperUnused, limitAllowed, timesWithin, questionChecks, firstRefusal, refusal};
 use advisory::Sense;
 use limits::MAX_DELAY;
 use limits::MAX_LIMIT;
@@ -114,12 +114,6 @@ fn delay_within(question: Question) -> bool
     (0 <= question.delay) & (question.delay <= MAX_DELAY)
 }
 
-fn no_delay(question: Question) -> bool
-    ensures { λ r. ⌜ r ≡ noDelay question ⌝ }
-{
-    (0 <= question.delay) & (question.delay <= 0)
-}
-
 fn limit_allowed(question: Question) -> bool
     ensures { λ r. ⌜ r ≡ limitAllowed question ⌝ }
 {
@@ -134,10 +128,7 @@ fn times_within(question: Question) -> bool
     if !delay_within(question) {
         return false;
     }
-    if !limit_allowed(question) {
-        return false;
-    }
-    !two_sided(question) | no_delay(question)
+    limit_allowed(question)
 }
 
 // A question's own refusals: 4, 5, 14, 15, 16, 6.

@@ -10,7 +10,7 @@ use native.Mathlib.Omega.{arith}
 use lib.IntN.{ℤ, pos, negsuc, negℤ}
 use lib.Signed.{_≤ℤ_, ltZ-yes, clashℤ}
 use Rattle.integers.specs.Extremes.{max0}
-use Rattle.integers.proofs.Certificates.{pos≤}
+use Rattle.integers.proofs.Certificates.{pos≤, split<}
 use Rattle.instant.specs.declared.Instant.{Instant}
 use Rattle.instant.specs.declared.Moment.{Moment}
 use Rattle.instant.specs.declared.Moment.the-variants.{At, Never}
@@ -18,8 +18,8 @@ use Rattle.instant.specs.Order.{_÷_, _≼_, noLater}
 use Rattle.instant.proofs.TimeOrder.{≼-refl, ≼-trans, noLater-true}
 use Rattle.path.specs.declared.SensedQuestion.{SensedQuestion}
 use Rattle.path.specs.declared.Side.{Side}
-use Rattle.path.specs.declared.Side.the-variants.{Lower}
-use Rattle.path.specs.Paths.{u-d, lowerPath}
+use Rattle.path.specs.declared.Side.the-variants.{Lower, Upper}
+use Rattle.path.specs.Paths.{u-d, lowerPath, upperTarget}
 use Rattle.path.specs.Window.{Window, windowStart, windowEnd}
 use Rattle.path.specs.inner.Tests.{inWindow, opening, notBeyond, inConflict}
 use Rattle.path.specs.Conflict.{lowerEdge, NotBeyond, Conflict}
@@ -30,7 +30,7 @@ use Rattle.path.proofs.Decisions.{window-decided, notBeyond-decided, conflict-d
 use Rattle.path.proofs.WindowEnds.{window-between, between-window, windowStart-divisor, windowEnd-divisor, endless-start-zero}
 use Rattle.path.proofs.Profile.{scaled-up}
 use Rattle.path.proofs.SideProfiles.{lower-scale, lower-edge-scale, instants-divisor}
-use Rattle.path.proofs.Risen.{risen}
+use Rattle.path.proofs.Risen.{risen, fallen}
 use Rattle.shown.specs.TimeShown.{isNever, approaches, searches, searched, shownFrom, timeShown}
 use Rattle.shown.specs.declared.LowestPoint.{LowestPoint}
 use Rattle.shown.specs.declared.LowestPoint.the-variants.{Passed, Inside, Beyond}
@@ -148,14 +148,29 @@ module _ (s : SensedQuestion) where
   turned (pos q) a d x t e = (pos≤ {m = 0} {n = q} (omega arith), ap instantOf e)
   turned (negsuc q) a d x t e = absurd (no true (ap isNever e) tt)
 
+  -- a path that does not approach is not searched
+  departing : (side : Side) → approaches side s ≡ false → searches side s ≡ false
+  departing side = none (isNever (windowEnd s)) (inWindow s 0 1) (approaches side s)
+    where
+      none : (a b c : Bool) → c ≡ false → (a && (b && c)) ≡ false
+      none true true c h = h
+      none true false c h = refl
+      none false b c h = refl
+
+  -- an upper path that does not approach falls throughout: clear at the window's start, it is clear
+  pub fallen-shown : approaches Upper s ≡ false → Opened s → StartTried Upper s → Never ≡ shownFrom Upper s (asList (windowEnd s))
+  fallen-shown e o h =
+      let target : upperTarget s ≤ℤ pos 0 = ⊎-elim (λ l. absurd (no (approaches Upper s) e (l .lt))) (λ l. l) (split< (pos 0) (upperTarget s)) in
+      none-shown Upper s (asList (windowEnd s))
+      (λ y i c. no (inConflict Upper s (windowStart s .n) (windowStart s .m)) h (conflict-decided s (windowStart s .n) (windowStart s .m) Upper .1 (record {
+        window = start-window o;
+        vertical = fallen s target (windowStart s) y (windowEnd-divisor s y i) (window-between s (y .n) (y .m) (c .window) .after) (c .vertical);
+      })))
+      (departing Upper e)
+
   module _ (z : Sizes s) (t : Instant) (e : turning-of s ≡ At t) where
     departs : searches Lower s ≡ false
-    departs = none (isNever (windowEnd s)) (inWindow s 0 1) (approaches Lower s) (false-of (approaches Lower s) (λ k. clashℤ (ltZ-yes k) (turned (s .target) (s .strength) (s .delay) (u-d s) t e .0)))
-      where
-        none : (a b c : Bool) → c ≡ false → (a && (b && c)) ≡ false
-        none true true c h = h
-        none true false c h = refl
-        none false b c h = refl
+    departs = departing Lower (false-of (approaches Lower s) (λ k. clashℤ (ltZ-yes k) (turned (s .target) (s .strength) (s .delay) (u-d s) t e .0)))
 
     -- beyond the edge at x, no earlier than t, and so from there on
     risen-shown : (x : Instant) → 0 < x .m → t ≼ x → ¬ NotBeyond Lower s (x .n) (x .m) → (l : List Instant) → ((y : Instant) → Among y l → (0 < y .m) × (Conflict Lower s (y .n) (y .m) → x ≼ y)) → Never ≡ shownFrom Lower s l

@@ -3,7 +3,7 @@ ghost use mathlib.Core.Path.{_≡_};
 ghost use mathlib.Core.List.{_++_};
 ghost use Rattle.instant.specs.declared.Moment.the-variants.{At, Never};
 ghost use Rattle.instant.specs.Order.{_÷_};
-ghost use Rattle.path.specs.declared.Side.the-variants.{Lower};
+ghost use Rattle.path.specs.declared.Side.the-variants.{Lower, Upper};
 ghost use Rattle.path.specs.Letters.{q, a, d};
 ghost use Rattle.path.specs.Paths.{u-d};
 ghost use Rattle.path.specs.Window.{windowStart, windowEnd};
@@ -13,6 +13,7 @@ ghost use Rattle.path.specs.inner.Sizes.{Sizes, Sized, InReach, searchStart, se
 ghost use Rattle.shown.specs.TimeShown.{approaches, searched, shownFrom, timeShown};
 ghost use Rattle.shown.specs.inner.Steps.{Opened, StartTried, InstantsTried, shownAt, lowestPoint, Searchable, firstReached};
 use conflict::not_beyond;
+use conflict::second_not_beyond;
 use conflict::speed_after_delay;
 use conflict::upper_target;
 use instant::Instant;
@@ -35,7 +36,7 @@ fn turning_instant(s: SensedQuestion) -> Moment
     }
     let a = s.strength;
     let d = s.delay;
-    let speed = speed_after_delay(s);
+    let speed = speed_after_delay(Side::Lower, s);
     let back = positive_part(-speed);
     Moment::At(Instant {
         n: d * a + back,
@@ -69,7 +70,7 @@ fn search_end(side: Side, s: SensedQuestion) -> u64
 {
     match side {
         Side::Lower => s.delay + 1680000,
-        Side::Upper => 200480000,
+        Side::Upper => s.delay + 201680000,
     }
 }
 
@@ -83,7 +84,7 @@ fn first_second(side: Side, s: SensedQuestion) -> u64
     let mut hi = search_end(side, s);
     while hi - lo > 1 {
         let mid = lo + (hi - lo) / 2;
-        if not_beyond(side, s, mid, 1) {
+        if second_not_beyond(side, s, mid) {
             hi = mid;
         } else {
             lo = mid;
@@ -202,6 +203,18 @@ fn from_delay(s: SensedQuestion, start: Instant) -> Moment
     from_lowest(s, start)
 }
 
+// After the window's start on the upper side. A path that does not approach falls throughout.
+fn from_start(s: SensedQuestion) -> Moment
+    requires { ⌜ Sized Upper s ⌝ }
+    requires { ⌜ Opened s × StartTried Upper s ⌝ }
+    ensures { λ t. ⌜ t ≡ shownFrom Upper s (asList (windowEnd s)) ⌝ }
+{
+    if !approaching(Side::Upper, s) {
+        return Moment::Never;
+    }
+    from_end(Side::Upper, s)
+}
+
 // The time shown on a side of a window that opens at a start. Between the start and the end only the lower path has instants.
 pub fn time_shown(side: Side, s: SensedQuestion, start: Instant) -> Moment
     requires { ⌜ Sized side s ⌝ }
@@ -213,6 +226,6 @@ pub fn time_shown(side: Side, s: SensedQuestion, start: Instant) -> Moment
     }
     match side {
         Side::Lower => from_delay(s, start),
-        Side::Upper => from_end(Side::Upper, s),
+        Side::Upper => from_start(s),
     }
 }

@@ -7,7 +7,7 @@ use mir.Syntax.{w64}
 use mir.Val.{toZ, ofZ}
 use Rattle.integers.specs.Extremes.{max0}
 use Rattle.integers.proofs.Machine.{plain}
-use Rattle.path.specs.inner.Sizes.{maxSpeedDifference, maxSpeedAfterDelay}
+use Rattle.path.specs.inner.Sizes.{maxSpeedAfterDelay}
 use Rattle.conflict.specs.declared.AdviceRule.{AdviceRule}
 use Rattle.conflict.specs.inner.Divided.{missing}
 use Rattle.conflict.specs.inner.RuleSizes.{RuleSizes}
@@ -19,7 +19,7 @@ use Rattle.conflict.proofs.missing_speed.Tie as tie
 
 module _ (rule : AdviceRule) (z : RuleSizes rule) where
   target-in-range : natAbs (toZ w64 (ofZ w64 (rule .target))) ≤ maxOperand
-  target-in-range = operand (rule .target) maxSpeedDifference (z .target-hi) tt
+  target-in-range = operand (rule .target) maxSpeedAfterDelay (z .target-hi) tt
 
   speed-in-range : natAbs (toZ w64 (ofZ w64 (rule .speed))) ≤ maxOperand
   speed-in-range = operand (rule .speed) maxSpeedAfterDelay (z .speed-hi) tt

@@ -5,6 +5,7 @@ use lib.IntN.{ℤ, natAbs}
 use borrow.Author.Needs.{needs}
 use Rattle.integers.proofs.Laws.{natAbs-in}
 use Rattle.integers.proofs.Machine.{equal-to, plain-call}
+use Rattle.path.specs.declared.Side.the-variants.{Lower}
 use Rattle.path.specs.Letters.{q}
 use Rattle.path.specs.inner.Sizes.{maxSpeedDifference, maxSpeedAfterDelay}
 use Rattle.conflict.proofs.Fields.{after-delay-size}
@@ -19,7 +20,7 @@ positive-difference-requires c κs =
     let s = y .args .s in
     let z = y .pre in
     let target = operand (q s) maxSpeedDifference (natAbs-in (q s) maxSpeedDifference (z .q-lo) (z .q-hi)) tt in
-    let speed = operand (c .speed-after-delay .result) maxSpeedAfterDelay (subst (λ (x : ℤ). natAbs x ≤ maxSpeedAfterDelay) (sym (c .speed-after-delay .ensures)) (after-delay-size s z)) tt in
+    let speed = operand (c .speed-after-delay .result) maxSpeedAfterDelay (subst (λ (x : ℤ). natAbs x ≤ maxSpeedAfterDelay) (sym (c .speed-after-delay .ensures)) (after-delay-size s z Lower)) tt in
     search needs
 
 returns : tie.Need-returns

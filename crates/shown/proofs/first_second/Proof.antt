@@ -40,8 +40,8 @@ sub-mid c = omega (arith, c .before .loop .inv .less)
 add-mid : tie.Need-add-mid Inv-loop μ-loop
 add-mid c = let z = c .before .before .before .before in let i = c .before .loop .inv in omega (arith, i .less, i .till, search-in-reach (z .args .side) (z .args .s) (z .pre .0))
 
-not-beyond-requires : tie.Need-not-beyond-requires Inv-loop μ-loop
-not-beyond-requires c κs =
+second-not-beyond-requires : tie.Need-second-not-beyond-requires Inv-loop μ-loop
+second-not-beyond-requires c κs =
     let z = c .before .before .before .before in
     let i = c .before .loop .inv in
     let side = z .args .side in
@@ -56,7 +56,7 @@ loop-again c = let y = c .before .before in let i = y .before .loop .inv in reco
   less = omega (arith, y .loop-test .taken);
   till = omega (arith, i .till, i .less);
   clear = i .clear;
-  reached = sym (c .before .not-beyond .ensures) ∙ c .if1 .taken;
+  reached = sym (c .before .second-not-beyond .ensures) ∙ c .if1 .taken;
 }
 
 loop-less-2 : tie.Need-loop-less-2 Inv-loop μ-loop
@@ -67,7 +67,7 @@ loop-again-2 c = let y = c .before .before in let i = y .before .loop .inv in re
   from = omega (arith, i .from);
   less = omega (arith, y .loop-test .taken, i .less);
   till = i .till;
-  clear = sym (c .before .not-beyond .ensures) ∙ c .if1 .left;
+  clear = sym (c .before .second-not-beyond .ensures) ∙ c .if1 .left;
   reached = i .reached;
 }
 
@@ -80,4 +80,4 @@ returns c =
 pub first-second-spec : {M : Type 1} → statement M
 first-second-spec =
     tie.close
-    (tie.spec Inv-loop μ-loop search-start-requires search-end-requires loop-holds sub-loop sub-mid add-mid not-beyond-requires loop-less loop-again loop-less-2 loop-again-2 returns)
+    (tie.spec Inv-loop μ-loop search-start-requires search-end-requires loop-holds sub-loop sub-mid add-mid second-not-beyond-requires loop-less loop-again loop-less-2 loop-again-2 returns)

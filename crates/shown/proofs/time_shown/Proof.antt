@@ -58,8 +58,8 @@ from-delay-requires c κs =
 enum-told-2 : tie.Need-enum-told-2
 enum-told-2 c = search needs
 
-from-end-requires : tie.Need-from-end-requires
-from-end-requires c κs =
+from-start-requires : tie.Need-from-start-requires
+from-start-requires c κs =
     let e = c .before .before in
     let z = e .before .before in
     let h = missed e Upper (c .enum-told2 .given .1) in
@@ -69,7 +69,7 @@ returns-2 : tie.Need-returns-2
 returns-2 c = c .from-delay .ensures ∙ missed (c .before .before .before) Lower (c .before .enum-told .given .1) .rest
 
 returns-3 : tie.Need-returns-3
-returns-3 c = c .from-end .ensures ∙ missed (c .before .before .before) Upper (c .before .enum-told2 .given .1) .rest
+returns-3 c = c .from-start .ensures ∙ missed (c .before .before .before) Upper (c .before .enum-told2 .given .1) .rest
 
 pub time-shown-spec : {M : Type 1} → statement M
-time-shown-spec = tie.close (tie.spec not-beyond-requires returns enum-told from-delay-requires enum-told-2 from-end-requires returns-2 returns-3)
+time-shown-spec = tie.close (tie.spec not-beyond-requires returns enum-told from-delay-requires enum-told-2 from-start-requires returns-2 returns-3)
