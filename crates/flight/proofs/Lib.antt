@@ -1,0 +1,9 @@
+pub mod Steps
+pub mod AboveLower
+pub mod Safe
+pub mod BySeconds
+pub mod Reach
+pub mod Crossing
+pub mod NearParts
+pub mod ByStretch
+pub mod InsideSeconds
