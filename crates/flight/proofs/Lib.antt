@@ -1,9 +1,14 @@
 pub mod Steps
 pub mod AboveLower
 pub mod Safe
+pub mod ClearVerdict
 pub mod BySeconds
 pub mod Reach
 pub mod Crossing
 pub mod NearParts
-pub mod ByStretch
 pub mod InsideSeconds
+pub mod Decides
+pub mod ObeyingTests
+pub mod InsideTests
+pub mod Clamped
+pub mod ByStretch

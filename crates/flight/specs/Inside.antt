@@ -6,7 +6,7 @@ use Prim.Native.Nat.{ℕ, suc, _*_, _≤_, _<_}
 use lib.IntN.{ℤ, pos, _-ℤ_, _*ℤ_, natAbs}
 use Rattle.path.specs.declared.SensedQuestion.{SensedQuestion}
 use Rattle.path.specs.Letters.{p, k, wh, u}
-use Rattle.path.specs.Window.{distanceAt}
+use Rattle.path.specs.Window.{InTime, distanceAt}
 use Rattle.flight.specs.declared.Stretch.{Stretch}
 use Rattle.flight.specs.declared.PuckEntry.{PuckEntry}
 use Rattle.flight.specs.declared.PuckEntry.the-variants.{Never, During}
@@ -44,3 +44,7 @@ pub record FirstSecond (s : SensedQuestion) (l : List Stretch) (n : ℕ) : Type 
 abbrev pub RightEntry : SensedQuestion → List Stretch → PuckEntry → Type 0
 RightEntry s l Never = (n m : ℕ) → ¬ InsideTime s l n m
 RightEntry s l (During n) = FirstSecond s l n
+
+-- "no obeying flight is inside the puck at a rational time up to its end and the limit": what is to be proved of one
+abbrev pub NeverInside : SensedQuestion → List Stretch → Type 0
+NeverInside s l = (n m : ℕ) → InTime (s .limit) n m → ¬ InsideTime s l n m
