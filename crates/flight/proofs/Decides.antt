@@ -32,9 +32,12 @@ lt-decides x y = record { yes = λ t. ltZ-yes t; is = λ h. h .lt }
 pub nat-decides : (m n : ℕ) → Decides (leb m n) (m ≤ n)
 nat-decides m n = record { yes = leb→le m n; is = le→leb m n }
 
--- two tests of one statement are equal, and a test of what is not so is false
+-- two tests of one statement are equal; a test of what is so is true, of what is not so false
 pub same-decision : {a b : Bool} {X Y : Type 0} → Decides a X → Decides b Y → X ↔ Y → a ≡ b
 same-decision {a} {b} f g e = same-test a b (λ t. g .is (e .0 (f .yes t))) (λ t. f .is (e .1 (g .yes t)))
+
+pub decided-yes : {a : Bool} {X : Type 0} → Decides a X → X → a ≡ true
+decided-yes {a} f x = same-test a true (λ t. tt) (λ t. f .is x)
 
 pub decides-not : {a : Bool} {X : Type 0} → Decides a X → ¬ X → a ≡ false
 decides-not {a} f never = same-test a false (λ t. never (f .yes t)) (λ t. absurd t)

@@ -12,3 +12,7 @@ pub mod ObeyingTests
 pub mod InsideTests
 pub mod Clamped
 pub mod ByStretch
+pub mod PlainNumbers
+pub mod WindowSeconds
+pub mod Walk
+pub mod FlightSizes
