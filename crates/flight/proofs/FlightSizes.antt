@@ -84,7 +84,7 @@ pub record StretchSizes (x : Stretch) : Type 0 where
   pub shortest : minStretchSeconds ≤ x .seconds
   pub longest : x .seconds ≤ maxFlightSeconds
 
-stretch-sizes : (x : Stretch) → T (stretchWithin x) → StretchSizes x
+pub stretch-sizes : (x : Stretch) → T (stretchWithin x) → StretchSizes x
 stretch-sizes x t =
     let g = between (negℤ (pos maxFlightAcceleration)) (pos maxFlightAcceleration) (x .acceleration) (and-l (flightAccelerationWithin (x .acceleration)) (stretchSecondsWithin (pos (x .seconds))) t) in
     let n = between (pos minStretchSeconds) (pos maxFlightSeconds) (pos (x .seconds)) (and-r (flightAccelerationWithin (x .acceleration)) (stretchSecondsWithin (pos (x .seconds))) t) in
