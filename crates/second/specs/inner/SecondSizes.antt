@@ -1,0 +1,12 @@
+-- Definitions that only inner contracts use; an instructor need not read them.
+-- The sizes of a flight's motion at a whole second: what keeps the tests of a second within 64 bits.
+use Prim.Native.Nat.{_≤_}
+use lib.IntN.{natAbs}
+use Rattle.limits.specs.Limits.{maxFlightAcceleration}
+use Rattle.flight.specs.inner.Clamped.{mostFlightSpeed, mostFlightHeight}
+use Rattle.second.specs.declared.Motion.{Motion}
+
+pub record MotionSizes (motion : Motion) : Type 0 where
+  pub height-hi : natAbs (motion .height) ≤ mostFlightHeight
+  pub speed-hi : natAbs (motion .speed) ≤ mostFlightSpeed
+  pub acceleration-hi : natAbs (motion .acceleration) ≤ maxFlightAcceleration
