@@ -16,3 +16,4 @@ pub mod PlainNumbers
 pub mod WindowSeconds
 pub mod Walk
 pub mod FlightSizes
+pub mod FlightExamples
