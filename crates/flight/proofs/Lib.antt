@@ -17,3 +17,4 @@ pub mod WindowSeconds
 pub mod Walk
 pub mod FlightSizes
 pub mod FlightExamples
+pub mod HandedIn
