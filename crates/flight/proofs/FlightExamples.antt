@@ -1,6 +1,5 @@
 -- For the verdict "conflict" nothing is promised of flights: of two flights that obey the advice of M5 (document 01: climb to 0 at 500, v −1,000, r 0, c 10,000,
 -- h −7,000), one is inside the puck and the other is not. A third obeys before and after a delay, each rule on its side. Assumes nothing.
-use mathlib.Core.Path.{_≡_, refl, subst}
 use mathlib.Core.List.{List, [], _∷_}
 use Prim.Native.Nat.{ℕ}
 use native.Mathlib.Omega.{arith}

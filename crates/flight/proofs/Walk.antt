@@ -1,6 +1,6 @@
 -- What a program's walk over a flight needs, second by second: the speed and the height at the next whole second; what is known of both answers after n
 -- seconds, and after the next. Assumes nothing.
-use mathlib.Core.Path.{_≡_, refl, sym, ap, _∙_, subst}
+use mathlib.Core.Path.{_≡_, refl, ap, _∙_, subst}
 use mathlib.Core.Bool.{Bool, true, false, cond, _&&_}
 use mathlib.Core.List.{List, [], _∷_}
 use Prim.Native.Nat.{ℕ, zero, suc, _+_, _*_, _-_, _<_, _≤_}
@@ -11,11 +11,10 @@ use Rattle.integers.proofs.Quotation.{quote}
 use Rattle.integers.proofs.Certificates.{ring}
 use Rattle.integers.proofs.Branches.{picks-yes, picks-no}
 use Rattle.path.specs.declared.SensedQuestion.{SensedQuestion}
-use Rattle.path.specs.Letters.{c, p, k, u, d}
+use Rattle.path.specs.Letters.{c, p, k, u}
 use Rattle.path.specs.Window.{distanceAt}
 use Rattle.flight.specs.declared.Stretch.{Stretch}
 use Rattle.flight.specs.declared.Part.{Part}
-use Rattle.flight.specs.declared.PuckEntry.{PuckEntry}
 use Rattle.flight.specs.declared.PuckEntry.the-variants.{Never, During}
 use Rattle.flight.specs.Flight.{duration, accelerationAt, speedAt, heightAt}
 use Rattle.flight.specs.Inside.{InsideDuring}

@@ -1,10 +1,8 @@
 -- Outside the window's ends (r − p)/c and (r + p)/c no second has a time inside the puck, so that a program need not look there, where 2 × c² × y leaves 64
 -- bits. The limit plays no part. Assumes nothing.
 use mathlib.Core.List.{List, [], _∷_}
-use Prim.Native.Nat.{ℕ, suc, _+_, _*_, _<_, _≤_}
-use native.Mathlib.Nat.{mul-le-mul-left, mul-le-mul-right}
-use native.Mathlib.Omega.{arith}
-use lib.IntN.{ℤ, pos, _+ℤ_, _-ℤ_, _*ℤ_}
+use Prim.Native.Nat.{ℕ, suc, _*_, _<_}
+use lib.IntN.{pos, _+ℤ_, _-ℤ_}
 use lib.Signed.{_≤ℤ_, _<ℤ_, <ℤ-irrefl}
 use Rattle.integers.proofs.Quotation.{quote}
 use Rattle.integers.proofs.Certificates.{by<, gap≤, gap<, _⊞_, _⊠_, 0≤pos, pos≤}
