@@ -13,19 +13,18 @@ use Rattle.integers.proofs.Quotation.{quote}
 use Rattle.integers.proofs.Certificates.{by≤, by<, div≤, gap≤, _⊞_, _⊠_, 0≤pos, pos≤, pos<, nat≤}
 use Rattle.integers.proofs.Laws.{≤ℤ-of-≡, max0-ge, max0-le, max0-scale, natAbs-hi, natAbs-lo, natAbs-in}
 use Rattle.flight.specs.declared.Part.{Part}
-use Rattle.flight.specs.inner.Parts.{InPart, partUpTo, nearPart}
+use Rattle.flight.specs.inner.Parts.{InPart, Proper, DivisorWithin, partUpTo, nearPart}
 use Rattle.flight.specs.declared.Part.the-variants.{Nowhere, FromTo, From}
-use Rattle.flight.proofs.Reach.{Proper}
 
 -- j/K into the second the intruder is near
-pub record Near (c p : ℕ) (R : ℤ) (j K : ℕ) : Type 0 where
+pub record NearAt (c p : ℕ) (R : ℤ) (j K : ℕ) : Type 0 where
   pub less : j < K
   pub near : natAbs (R *ℤ pos K -ℤ pos c *ℤ pos j) ≤ p * K
 
 pub record NearPart (c p : ℕ) (R : ℤ) (part : Part) : Type 0 where
   pub proper : Proper part
-  pub there : (j K : ℕ) → Near c p R j K → InPart part j K
-  pub back : (j K : ℕ) → 1 ≤ K → InPart part j K → Near c p R j K
+  pub there : (j K : ℕ) → NearAt c p R j K → InPart part j K
+  pub back : (j K : ℕ) → 1 ≤ K → InPart part j K → NearAt c p R j K
 
 part-by : (b : Bool) (x y : Part) (X : Part → Type 0) → (T b → X x) → (T (not b) → X y) → X (cond b x y)
 part-by true x y X f g = f tt
@@ -60,17 +59,17 @@ module _ (c p : ℕ) (R : ℤ) (pc : 0 < c) where
   abbrev x : ℕ
   x = max0 (R -ℤ pos p)
 
-  from-x : (j K : ℕ) → Near c p R j K → x * K ≤ j * c
+  from-x : (j K : ℕ) → NearAt c p R j K → x * K ≤ j * c
   from-x j K n = let h = max0-scale (R -ℤ pos p) K (c * j) (after c p R j K (n .near)) in omega arith
 
   x-after : (j K : ℕ) → x * K ≤ j * c → ((R -ℤ pos p) *ℤ pos K) ≤ℤ pos (c * j)
   x-after j K h = by≤ (c ∷ p ∷ j ∷ K ∷ max0 (R -ℤ pos p) ∷ []) (R ∷ []) (gap≤ (max0-ge (R -ℤ pos p)) ⊠ 0≤pos K ⊞ gap≤ (pos≤ h)) (λ w. search quote depth 20) tt
 
-  past : (z j K : ℕ) → R +ℤ pos p ≡ negsuc z → Near c p R j K → ⊥
+  past : (z j K : ℕ) → R +ℤ pos p ≡ negsuc z → NearAt c p R j K → ⊥
   past z j K e n = <ℤ-irrefl {a = pos 0} (by< (c ∷ p ∷ z ∷ j ∷ K ∷ []) (R ∷ []) (gap≤ (until c p R j K (n .near)) ⊞ gap≤ (≤ℤ-of-≡ e) ⊠ 0≤pos K ⊞ gap≤ (pos≤ (n .less)) ⊞ 0≤pos (z * K) ⊞ 0≤pos (c * j) ⊞ 0≤pos j) (λ w. search quote depth 20) tt)
 
   module _ (z : ℕ) (e : R +ℤ pos p ≡ pos z) where
-    till-z : (j K : ℕ) → Near c p R j K → j * c ≤ z * K
+    till-z : (j K : ℕ) → NearAt c p R j K → j * c ≤ z * K
     till-z j K n = nat≤ {m = j * c} {n = z * K} (by≤ (c ∷ p ∷ z ∷ j ∷ K ∷ []) (R ∷ []) (gap≤ (until c p R j K (n .near)) ⊞ gap≤ (≤ℤ-of-≡ e) ⊠ 0≤pos K) (λ w. search quote depth 20) tt)
 
     z-till : (j K : ℕ) → j * c ≤ z * K → pos (c * j) ≤ℤ ((R +ℤ pos p) *ℤ pos K)
@@ -115,3 +114,14 @@ near-part zero p R = part-by (leb (natAbs R) p) (From 0 1) Nowhere (NearPart 0 p
       back = λ j K pK i. absurd i;
     })
 near-part (suc c) p R = part-any (suc c) p R (omega arith) (R +ℤ pos p) refl
+
+-- its fractions have the divisor c, or 1
+pub near-divisor : (B c p : ℕ) (R : ℤ) → 1 ≤ B → c ≤ B → DivisorWithin B (nearPart c p R)
+near-divisor B zero p R one h = part-by (leb (natAbs R) p) (From 0 1) Nowhere (DivisorWithin B) (λ t. one) (λ t. tt)
+near-divisor B (suc c) p R one h = up-to (R +ℤ pos p)
+  where
+    up-to : (Z : ℤ) → DivisorWithin B (partUpTo (suc c) (max0 (R -ℤ pos p)) Z)
+    up-to (negsuc z) = tt
+    up-to (pos z) = let x = max0 (R -ℤ pos p) in
+        part-by (leb (suc c) x) Nowhere (cond (ltb z (suc c)) (FromTo x z (suc c)) (From x (suc c))) (DivisorWithin B) (λ t. tt)
+        (λ t. part-by (ltb z (suc c)) (FromTo x z (suc c)) (From x (suc c)) (DivisorWithin B) (λ t. h) (λ t. h))
