@@ -7,14 +7,17 @@ ghost use lib.ListN.{getD};
 ghost use Rattle.path.specs.inner.Sizes.{Sizes};
 ghost use Rattle.flight.specs.HandedIn.{flightOf, numbersWithin};
 ghost use Rattle.flight.specs.SensedFlight.{sensedFlight};
-ghost use Rattle.flight.specs.inner.Tests.{obeysTest};
+ghost use Rattle.flight.specs.inner.Tests.{obeysTest, firstInside};
 ghost use Rattle.stretches.specs.inner.NoStretch.{noStretch};
 ghost use Rattle.second.specs.inner.SecondSizes.{MotionSizes};
 ghost use Rattle.flown.specs.inner.Places.{motionAfter, PlaceAt};
 use advisory::Sense;
+use flight::PuckEntry;
 use flight::Stretch;
 use path::SensedQuestion;
 use second::Motion;
+use second::crosses_in_second;
+use second::inside_at;
 use second::obeys_in_second;
 use sensed::sign_of;
 use stretches::stretch_at;
@@ -116,4 +119,23 @@ pub fn flight_obeys(s: SensedQuestion, w: Sense, flight: &[i64]) -> bool
         place = next_place(s, w, flight, place);
     }
     true
+}
+
+// The first second with a time inside the puck; of the flight's end the instant alone.
+pub fn first_inside(s: SensedQuestion, w: Sense, flight: &[i64]) -> PuckEntry
+    requires { ⌜ Sizes s ⌝ }
+    requires { ⌜ numbersWithin (now flight) ≡ true ⌝ }
+    ensures { λ r. ⌜ r ≡ firstInside s (sensedFlight w (flightOf (now (flight .entry)))) ⌝ }
+{
+    let mut place = first_place(s, w, flight);
+    while 0 < place.left {
+        if crosses_in_second(s, place.second, place.motion) {
+            return PuckEntry::During(place.second);
+        }
+        place = next_place(s, w, flight, place);
+    }
+    if inside_at(s, place.second, place.motion) {
+        return PuckEntry::During(place.second);
+    }
+    PuckEntry::Never
 }
