@@ -115,7 +115,7 @@ fn near_part(s: SensedQuestion, n: u64) -> Part
 }
 
 // More than twice the height can change within a second: 2·|v| + |g| is below it.
-const MOST_GAINED: i64 = 2 * (2 * MAX_SPEED + MAX_FLIGHT_ACCELERATION * MAX_FLIGHT_SECONDS) + MAX_FLIGHT_ACCELERATION + 1;
+const MOST_GAINED: i64 = 2 * (2 * MAX_SPEED + MAX_FLIGHT_ACCELERATION * (MAX_FLIGHT_SECONDS as i64)) + MAX_FLIGHT_ACCELERATION + 1;
 
 const MOST_LOST: i64 = -MOST_GAINED;
 
