@@ -2,13 +2,13 @@
 
 use crate::exact::Ratio;
 use crate::independent::{
-    Accepted, FIELDS, Moment, NO_LIMIT, Question, RANGES, REFUSALS, in_range,
+    Accepted, FIELDS, Moment, NO_LIMIT, Question, RANGES, REFUSALS, Upper, Window, in_range,
 };
 use std::cmp::Ordering;
 
-/// A set of up to 192 edges.
+/// A set of up to 256 edges.
 #[derive(Clone, Copy, Debug, Default, PartialEq, Eq)]
-pub struct Set([u64; 3]);
+pub struct Set([u64; 4]);
 
 impl Set {
     pub fn add(&mut self, edge: Edge) {
@@ -34,6 +34,14 @@ impl Set {
             Ordering::Equal => edges[1],
             Ordering::Greater => edges[2],
         });
+    }
+
+    /// Adds the edges for the window's start and its end, if it has one, against an instant.
+    fn add_ends(&mut self, window: Window, t: Ratio, starts: [Edge; 3], ends: [Edge; 3]) {
+        self.add_order(window.start, t, starts);
+        if let Some(end) = window.end {
+            self.add_order(end, t, ends);
+        }
     }
 
     pub fn iter(self) -> impl Iterator<Item = Edge> {
@@ -140,7 +148,43 @@ edges! {
     UpperEqualAtSecond: "j at the level, first whole second",
     UpperMissedSecond: "j within a grain below, the second before the first",
     UpperLongSearch: "upper first whole second from 10,000,000",
-    UpperArcSearch: "upper first whole second on the arc",
+    UpperLongerSearch: "upper first whole second from 200,480,000, with a delay",
+    UpperDelaySearch: "upper first whole second in the delay",
+    UpperArcSearch: "upper first whole second on the arc after it",
+    UpperStraightSearch: "upper first whole second on the straight, d > 0",
+    // d is no instant of the upper side
+    UpperEndNotDelay: "upper: the window's end is shown, d conflicts too",
+    UpperSecondNotDelay: "upper: a whole second before d is shown, d conflicts too",
+    // the upper path's delay
+    UpperDelayed: "two-sided, d > 0",
+    UpperDelayNone: "two-sided, d = 0",
+    UpperDelayLongest: "two-sided, d = 60",
+    UpperDelayCoasting: "two-sided, d > 0, e = 0",
+    UpperDelayTurns: "two-sided, j turns in the delay",
+    UpperDelayPassesTarget: "two-sided, upper q above u, and below u + e d",
+    UpperDelayNoEnd: "two-sided, d > 0, window without end",
+    UpperLevelNoEnd: "two-sided, window without end, upper q = 0, upper side clear",
+    UpperLimitBeforeDelay: "two-sided, limit before d",
+    UpperLimitAtDelay: "two-sided, limit at d, d > 0",
+    UpperLimitAfterDelay: "two-sided, limit after d, d > 0",
+    UpperStartBeforeDelay: "two-sided, window start before d",
+    UpperStartAtDelay: "two-sided, window start at d, d > 0",
+    UpperStartAfterDelay: "two-sided, window start after d, d > 0",
+    UpperEndBeforeDelay: "two-sided, window end before d",
+    UpperEndAtDelay: "two-sided, window end at d, d > 0",
+    UpperEndAfterDelay: "two-sided, window end after d, d > 0",
+    UpperStartBeforeStraight: "two-sided, window start before the upper straight",
+    UpperStartAtStraight: "two-sided, window start where the upper straight begins",
+    UpperStartAfterStraight: "two-sided, window start after the upper straight begins",
+    UpperEndBeforeStraight: "two-sided, window end before the upper straight",
+    UpperEndAtStraight: "two-sided, window end where the upper straight begins",
+    UpperEndAfterStraight: "two-sided, window end after the upper straight begins",
+    UpperEqualInDelay: "j at the level, window end in the delay",
+    UpperBelowInDelay: "j within a grain below, window end in the delay",
+    UpperAboveInDelay: "j within a grain above, window end in the delay",
+    UpperEqualAfterDelay: "j at the level, window end on the arc after the delay",
+    UpperBelowAfterDelay: "j within a grain below, window end on the arc after the delay",
+    UpperAboveAfterDelay: "j within a grain above, window end on the arc after the delay",
     // speeds
     SpeedAboveTarget: "u_d above q",
     SpeedAtTarget: "u_d = q",
@@ -159,9 +203,9 @@ edges! {
     StrengthsEqual: "two-sided, b = a",
     StrengthsDiffer: "two-sided, b > a",
     TargetsEqual: "two-sided, equal targets",
-    UpperTargetBelowSpeed: "two-sided, upper q below u",
-    UpperTargetAtSpeed: "two-sided, upper q = u",
-    UpperTargetAboveSpeed: "two-sided, upper q above u",
+    UpperTargetBelowSpeed: "two-sided, upper q below u + e d",
+    UpperTargetAtSpeed: "two-sided, upper q = u + e d",
+    UpperTargetAboveSpeed: "two-sided, upper q above u + e d",
     // refused questions
     SeveralGrounds: "several refusal numbers at once",
     Smallest64: "a number -2^63",
@@ -198,13 +242,13 @@ edges! {
     Order15And6: "15 before 6",
     Order16And6: "16 before 6",
     DelayOutside: "delay outside",
-    DelayTwoSided: "two-sided with a delay within limits",
+    DelayTwoSided: "two-sided, delay outside, no other ground than 6",
     LimitOutside: "limit outside",
     LimitJustBelowNone: "limit 65,534",
     LimitJustAboveNone: "limit 65,536",
 }
 
-const _: () = assert!(EDGES.len() <= 192);
+const _: () = assert!(EDGES.len() <= 256);
 
 /// Where a plain number lies against its limits.
 #[derive(Clone, Copy, Debug, PartialEq, Eq)]
@@ -292,7 +336,7 @@ pub fn grounds(q: &Question) -> [bool; REFUSALS.len()] {
         outside(12) || (two && outside(13)) || (two && q.upper_strength < q.strength),
         two && sensed(q.upper_target) < sensed(q.target),
         one && (q.upper_target != 0 || q.upper_strength != 0),
-        outside(14) || (outside(15) && q.limit != NO_LIMIT) || (two && q.delay != 0),
+        outside(14) || (outside(15) && q.limit != NO_LIMIT),
     ]
 }
 
@@ -335,6 +379,8 @@ fn order(set: &mut Set, q: &Question) {
         behind && (q.target - q.upper_target).abs() == 1,
         Edge::BehindByOne,
     );
+    let times = held == [6];
+    set.add_if(!one && times && !in_range(14, q.delay), Edge::DelayTwoSided);
     let strengths = in_range(12, q.strength) && in_range(13, q.upper_strength);
     set.add_if(
         !one && held == [14] && strengths && q.upper_strength == q.strength - 1,
@@ -363,7 +409,6 @@ fn refused(set: &mut Set, q: &Question) {
         };
     let target_given = one && q.upper_target != 0;
     let strength_given = one && q.upper_strength != 0;
-    let delay_two = two && !outside(14) && q.delay != 0;
     order(set, q);
     set.add_if(n.contains(&i64::MIN), Edge::Smallest64);
     set.add_if(n.contains(&i64::MAX), Edge::Largest64);
@@ -384,7 +429,6 @@ fn refused(set: &mut Set, q: &Question) {
     set.add_if(target_given && !outside(11), Edge::UpperTargetGiven);
     set.add_if(strength_given && !outside(13), Edge::UpperStrengthGiven);
     set.add_if(outside(14), Edge::DelayOutside);
-    set.add_if(delay_two, Edge::DelayTwoSided);
     set.add_if(limit_bad, Edge::LimitOutside);
     set.add_if(q.limit == NO_LIMIT - 1, Edge::LimitJustBelowNone);
     set.add_if(q.limit == NO_LIMIT + 1, Edge::LimitJustAboveNone);
@@ -406,6 +450,10 @@ fn accepted(set: &mut Set, q: &Question, x: &Accepted) {
     limit(set, x);
     window(set, x);
     levels(set, x);
+    if let Some(upper) = x.upper {
+        upper_delay(set, q, x, upper);
+        upper_levels(set, x, upper);
+    }
 }
 
 fn distance(set: &mut Set, x: &Accepted) {
@@ -462,7 +510,7 @@ fn speeds(set: &mut Set, q: &Question, x: &Accepted) {
         let upper_q = x.w * i128::from(q.upper_target - q.vi);
         set.add_order(
             whole(upper_q),
-            whole(x.u),
+            whole(upper.reached),
             [
                 Edge::UpperTargetBelowSpeed,
                 Edge::UpperTargetAtSpeed,
@@ -545,14 +593,9 @@ fn window(set: &mut Set, x: &Accepted) {
         window.end.is_some_and(|end| !end.is_whole()),
         Edge::EndBroken,
     );
-    let mut against = |y: Ratio, starts: [Edge; 3], ends: [Edge; 3]| {
-        set.add_order(window.start, y, starts);
-        if let Some(end) = window.end {
-            set.add_order(end, y, ends);
-        }
-    };
     if x.d > 0 {
-        against(
+        set.add_ends(
+            window,
             Ratio::whole(x.d),
             [
                 Edge::StartBeforeDelay,
@@ -563,7 +606,8 @@ fn window(set: &mut Set, x: &Accepted) {
         );
     }
     if turns(x) {
-        against(
+        set.add_ends(
+            window,
             x.turning(),
             [
                 Edge::StartBeforeTurning,
@@ -578,7 +622,8 @@ fn window(set: &mut Set, x: &Accepted) {
         );
     }
     if x.missing_speed() > 0 {
-        against(
+        set.add_ends(
+            window,
             x.straight_from(),
             [
                 Edge::StartBeforeStraight,
@@ -660,9 +705,81 @@ fn levels(set: &mut Set, x: &Accepted) {
         set.add_if(t >= Ratio::whole(100_000), Edge::LowerLongSearch);
         set.add_if(t < x.straight_from(), Edge::LowerArcSearch);
     }
-    let Some(upper) = x.upper else {
+}
+
+fn upper_delay(set: &mut Set, q: &Question, x: &Accepted, upper: Upper) {
+    let d = Ratio::whole(x.d);
+    let wanted = x.w * i128::from(q.upper_target - q.vi);
+    set.add(if x.d == 0 {
+        Edge::UpperDelayNone
+    } else {
+        Edge::UpperDelayed
+    });
+    set.add_if(x.d == 60, Edge::UpperDelayLongest);
+    set.add_if(x.d > 0 && x.e == 0, Edge::UpperDelayCoasting);
+    set.add_if(x.u < 0 && upper.reached > 0, Edge::UpperDelayTurns);
+    set.add_if(
+        x.u < wanted && wanted < upper.reached,
+        Edge::UpperDelayPassesTarget,
+    );
+    if let (true, Some(limit)) = (x.d > 0, x.limit) {
+        set.add_order(
+            Ratio::whole(limit),
+            d,
+            [
+                Edge::UpperLimitBeforeDelay,
+                Edge::UpperLimitAtDelay,
+                Edge::UpperLimitAfterDelay,
+            ],
+        );
+    }
+    let Some(window) = x.window() else {
         return;
     };
+    set.add_if(x.d > 0 && window.end.is_none(), Edge::UpperDelayNoEnd);
+    set.add_if(
+        window.end.is_none() && upper.q == 0 && x.upper_shown(upper).is_none(),
+        Edge::UpperLevelNoEnd,
+    );
+    if x.d > 0 {
+        set.add_ends(
+            window,
+            d,
+            [
+                Edge::UpperStartBeforeDelay,
+                Edge::UpperStartAtDelay,
+                Edge::UpperStartAfterDelay,
+            ],
+            [
+                Edge::UpperEndBeforeDelay,
+                Edge::UpperEndAtDelay,
+                Edge::UpperEndAfterDelay,
+            ],
+        );
+    }
+    if upper.reached < upper.q {
+        set.add_ends(
+            window,
+            x.upper_straight_from(upper),
+            [
+                Edge::UpperStartBeforeStraight,
+                Edge::UpperStartAtStraight,
+                Edge::UpperStartAfterStraight,
+            ],
+            [
+                Edge::UpperEndBeforeStraight,
+                Edge::UpperEndAtStraight,
+                Edge::UpperEndAfterStraight,
+            ],
+        );
+    }
+}
+
+fn upper_levels(set: &mut Set, x: &Accepted, upper: Upper) {
+    let Some(window) = x.window() else {
+        return;
+    };
+    let d = Ratio::whole(x.d);
     let height = |t: Ratio| x.upper_path(upper, t);
     let level = x.upper_level();
     add_grain(
@@ -675,6 +792,8 @@ fn levels(set: &mut Set, x: &Accepted) {
             Edge::UpperBelowAtStart,
         ],
     );
+    let shown = x.upper_shown(upper);
+    let at_delay = x.upper_conflict(upper, d);
     if let Some(end) = window.end {
         add_grain(
             set,
@@ -686,11 +805,34 @@ fn levels(set: &mut Set, x: &Accepted) {
                 Edge::UpperBelowAtEnd,
             ],
         );
-    } else if let Some((t, Moment::WholeSecond)) = x.upper_shown(upper) {
+        let straight = x.upper_straight_from(upper);
+        if end < d {
+            let edges = [
+                Edge::UpperEqualInDelay,
+                Edge::UpperAboveInDelay,
+                Edge::UpperBelowInDelay,
+            ];
+            add_grain(set, height(end), level, edges);
+        } else if x.d > 0 && d < end && end < straight {
+            let edges = [
+                Edge::UpperEqualAfterDelay,
+                Edge::UpperAboveAfterDelay,
+                Edge::UpperBelowAfterDelay,
+            ];
+            add_grain(set, height(end), level, edges);
+        }
+        let late = matches!(shown, Some((t, Moment::End)) if d < t);
+        set.add_if(late && at_delay, Edge::UpperEndNotDelay);
+    } else if let Some((t, Moment::WholeSecond)) = shown {
         let gap = Ratio::whole(level) - height(t - Ratio::whole(1));
+        let straight = x.upper_straight_from(upper);
         set.add_if(height(t) == Ratio::whole(level), Edge::UpperEqualAtSecond);
         set.add_if(gap <= Ratio::whole(1), Edge::UpperMissedSecond);
         set.add_if(t >= Ratio::whole(10_000_000), Edge::UpperLongSearch);
-        set.add_if(t < Ratio::new(upper.q - x.u, upper.b), Edge::UpperArcSearch);
+        set.add_if(t >= Ratio::whole(200_480_000), Edge::UpperLongerSearch);
+        set.add_if(t < d, Edge::UpperDelaySearch);
+        set.add_if(d < t && t < straight, Edge::UpperArcSearch);
+        set.add_if(x.d > 0 && straight < t, Edge::UpperStraightSearch);
+        set.add_if(t < d && at_delay, Edge::UpperSecondNotDelay);
     }
 }

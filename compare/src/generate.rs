@@ -137,14 +137,12 @@ pub fn accepted(random: &mut Random) -> Question {
         1 => random.pick(&[1, 2, 3, 4, 10]),
         _ => random.pick(&[483, 500, 644, 966, 2_000]),
     };
-    if q.sides == 1 {
-        q.delay = match random.below(6) {
-            0 | 1 => 0,
-            2 => random.pick(&[60, 59]),
-            3 => random.pick(&[1, 3, 5]),
-            _ => random.between(0, 60),
-        };
-    }
+    q.delay = match random.below(6) {
+        0 | 1 => 0,
+        2 => random.pick(&[60, 59]),
+        3 => random.pick(&[1, 3, 5]),
+        _ => random.between(0, 60),
+    };
     q.vi = match random.below(3) {
         0 => 0,
         1 => random.edgy(RANGES[V]),
@@ -173,10 +171,8 @@ pub fn accepted(random: &mut Random) -> Question {
 /// speed.
 fn turn(random: &mut Random, q: &mut Question) {
     let w = if q.sense == 1 { 1 } else { -1 };
-    if q.sides == 1 {
-        q.delay = random.pick(&[0, 1, 3, 5]);
-        q.e = random.pick(&[0, 1, 483, 966]);
-    }
+    q.delay = random.pick(&[0, 1, 3, 5]);
+    q.e = random.pick(&[0, 1, 483, 966]);
     q.vi = random.between(-1_000, 1_000);
     let at_delay = -q.strength * random.between(1, 12) / random.between(1, 2);
     q.v = (q.vi + w * (at_delay + q.e * q.delay)).clamp(-10_000, 10_000);
@@ -221,7 +217,34 @@ fn stay(random: &mut Random, q: &mut Question) {
             q.target = q.vi;
             q.upper_target = q.vi + w * slow(random);
         }
+        match random.below(8) {
+            0 => longest_above(random, q),
+            1 => level_above(random, q),
+            _ => {}
+        }
     }
+}
+
+/// Away from the intruder at the greatest speed, turned by a grain/s² after a delay without
+/// acceleration, then towards it by a grain a second.
+fn longest_above(random: &mut Random, q: &mut Question) {
+    let w = if q.sense == 1 { 1 } else { -1 };
+    q.e = 0;
+    q.delay = random.pick(&[0, 1, 59, 60]);
+    q.v = -w * random.pick(&[10_000, 10_000, 9_999]);
+    q.vi = w * 9_999;
+    q.target = w * random.pick(&[-10_000, 9_998]);
+    q.upper_target = w * 10_000;
+    q.strength = 1;
+    q.upper_strength = 1;
+}
+
+/// Never towards the intruder: the upper path sinks, and at last keeps level with it.
+fn level_above(random: &mut Random, q: &mut Question) {
+    let w = if q.sense == 1 { 1 } else { -1 };
+    q.e = 0;
+    q.v = q.vi - w * random.between(0, 300);
+    q.upper_target = q.vi;
 }
 
 fn targets(random: &mut Random, q: &mut Question) {
@@ -240,11 +263,14 @@ fn targets(random: &mut Random, q: &mut Question) {
     if q.sides == 1 {
         return;
     }
-    let wanted = match random.below(6) {
+    let reached = q.v + w * q.e * q.delay;
+    let wanted = match random.below(8) {
         0 | 1 => q.target,
         2 => q.v,
         3 => q.vi + w * random.between(-3, 3),
         4 => random.edgy(RANGES[TARGET]),
+        5 => reached + random.between(-1, 1),
+        6 => reached + w * random.between(0, 2_000),
         _ => q.target + w * random.between(0, 2_000),
     }
     .clamp(-10_000, 10_000);
@@ -271,11 +297,15 @@ fn closing(random: &mut Random, q: &mut Question, favour: Favour) {
         _ => random.pick(&[1, 7_000, 10_000, 60_000, 150_000]),
     };
     let x = Accepted::of(q).expect("generated within limits");
+    let straight = match x.upper {
+        Some(upper) if random.chance(1, 2) => x.upper_straight_from(upper),
+        _ => x.straight_from(),
+    };
     let marks = [
         Ratio::ZERO,
         Ratio::whole(x.d),
         x.turning(),
-        x.straight_from(),
+        straight,
         Ratio::whole(i128::from(random.between(0, 60))),
         Ratio::new(i128::from(random.between(0, 6_000)), 7),
     ];
@@ -353,7 +383,9 @@ fn height(random: &mut Random, q: &mut Question, favour: Favour) {
         Ratio::whole(i128::from(random.between(0, 1 << size)))
     };
     let end = end.unwrap_or(second);
+    let level = x.upper.is_some_and(|upper| upper.q == 0);
     let t = match (favour, random.below(6)) {
+        (Favour::NoEnd, _) if level => start,
         (Favour::Turning, 0..=3) => x.turning(),
         (Favour::NoEnd, 0..=3) => end,
         (_, 0 | 1) => start,
@@ -421,10 +453,10 @@ fn ill_advised(random: &mut Random, q: Question) -> Question {
             2 => weaker_above(random, q),
             3..=5 => behind(random, q),
             6 => Question { sides: 1, ..q },
-            _ => Question {
-                delay: random.pick(&[1, 5, 60, 61]),
-                ..q
-            },
+            _ => {
+                let field = random.pick(&[DELAY, DELAY, LIMIT]);
+                with_outside(random, q, field)
+            }
         };
     }
     match random.below(8) {
@@ -452,7 +484,7 @@ fn ill_advised(random: &mut Random, q: Question) -> Question {
             sides: 2,
             upper_target: q.target,
             upper_strength: q.strength,
-            delay: random.pick(&[1, 5, 60]),
+            delay: random.pick(&[61, -1]),
             ..q
         },
     }

@@ -1,5 +1,5 @@
-//! The entry for plain numbers, written from document 01 and, for refusals 5 and 14 to 16, document 02,
-//! "Which part of the advice was bad".
+//! The entry for plain numbers, written from document 01 and, for refusals 5 and 14 to 16 and the upper
+//! path's delay, document 02, "Which part of the advice was bad" and "Two-sided with a slow pilot".
 //!
 //! Two decisions are made apart and must agree. *Existence*: each path is cut into quadratic pieces,
 //! and the exact extreme of every piece over the window (its ends and its vertex) is compared with
@@ -260,11 +260,9 @@ fn upper_field_given(q: &Question) -> bool {
     q.sides == 1 && (q.upper_target != 0 || q.upper_strength != 0)
 }
 
-/// Whether delay or limit are refused with 6, where sides is known.
+/// Whether delay or limit are refused with 6.
 fn timing_refused(q: &Question) -> bool {
-    let limit_bad = q.limit != NO_LIMIT && !in_range(15, q.limit);
-    let delay_bad = !in_range(14, q.delay) || (q.sides == 2 && q.delay != 0);
-    limit_bad || delay_bad
+    !in_range(14, q.delay) || (q.limit != NO_LIMIT && !in_range(15, q.limit))
 }
 
 /// The refusals of the question itself: 4, 5, 14, 15, 16, 6.
@@ -323,13 +321,17 @@ pub struct Accepted {
     pub e: i128,
     pub d: i128,
     pub limit: Option<i128>,
-    /// Two-sided: b and max(w × (upper target − vi), u).
+    /// Two-sided.
     pub upper: Option<Upper>,
 }
 
+/// What the upper path has of its own.
 #[derive(Clone, Copy, Debug)]
 pub struct Upper {
     pub b: i128,
+    /// u + e × d, the sensed speed reached at the end of the delay.
+    pub reached: i128,
+    /// The speed that it takes: w × (upper target − vi), or the speed reached if that is more.
     pub q: i128,
 }
 
@@ -365,9 +367,11 @@ impl Accepted {
         let w: i128 = if q.sense == 1 { 1 } else { -1 };
         let wide = i128::from;
         let u = w * (wide(q.v) - wide(q.vi));
+        let reached = u + wide(q.e) * wide(q.delay);
         let upper = (q.sides == 2).then(|| Upper {
             b: wide(q.upper_strength),
-            q: u.max(w * (wide(q.upper_target) - wide(q.vi))),
+            reached,
+            q: reached.max(w * (wide(q.upper_target) - wide(q.vi))),
         });
         Ok(Accepted {
             w,
@@ -406,6 +410,11 @@ impl Accepted {
         Ratio::whole(self.d) + Ratio::new(self.missing_speed(), self.a)
     }
 
+    /// The instant from which the upper path is straight.
+    pub fn upper_straight_from(&self, upper: Upper) -> Ratio {
+        Ratio::whole(self.d) + Ratio::new(upper.q - upper.reached, upper.b)
+    }
+
     /// The highest sensed height of the lower path that conflicts: w × h + k.
     pub fn lower_level(&self) -> i128 {
         self.height + self.k
@@ -428,7 +437,12 @@ impl Accepted {
 
     /// The sensed height j of the upper path at t, t at least 0.
     pub fn upper_path(&self, upper: Upper, t: Ratio) -> Ratio {
-        advance(Ratio::ZERO, self.u, upper.q, upper.b, t)
+        let d = Ratio::whole(self.d);
+        let delay_arc = |t: Ratio| self.u * t + (self.e * (t * t)).over(2);
+        if t <= d {
+            return delay_arc(t);
+        }
+        advance(delay_arc(d), upper.reached, upper.q, upper.b, t - d)
     }
 
     /// Whether t is in the window, by its definition.
@@ -503,22 +517,34 @@ impl Accepted {
     }
 
     /// The upper path turned over, −j, as pieces: it conflicts at k − w × h and below.
-    fn upper_pieces_turned(&self, upper: Upper) -> [Piece; 2] {
-        let missing = upper.q - self.u;
-        let joint = Ratio::new(missing, upper.b);
+    fn upper_pieces_turned(&self, upper: Upper) -> [Piece; 3] {
+        let missing = upper.q - upper.reached;
+        let joint = self.upper_straight_from(upper);
+        let twice_at_delay = 2 * self.u * self.d + self.e * self.d * self.d;
         [
             Piece {
                 from: Ratio::ZERO,
-                to: Some(joint),
+                to: Some(Ratio::whole(self.d)),
                 origin: 0,
-                coefficients: [-upper.b, -2 * self.u, 0],
+                coefficients: [-self.e, -2 * self.u, 0],
+                scale: 2,
+            },
+            Piece {
+                from: Ratio::whole(self.d),
+                to: Some(joint),
+                origin: self.d,
+                coefficients: [-upper.b, -2 * upper.reached, -twice_at_delay],
                 scale: 2,
             },
             Piece {
                 from: joint,
                 to: None,
-                origin: 0,
-                coefficients: [0, -2 * upper.b * upper.q, missing * missing],
+                origin: self.d,
+                coefficients: [
+                    0,
+                    -2 * upper.b * upper.q,
+                    missing * missing - upper.b * twice_at_delay,
+                ],
                 scale: 2 * upper.b,
             },
         ]

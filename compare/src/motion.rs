@@ -52,7 +52,15 @@ pub fn target_reached(q: &Question) -> Ratio {
 
 /// The sensed height of the upper path at t.
 pub fn upper_height(q: &Question, t: Ratio) -> Ratio {
+    let e = i128::from(q.e);
+    let d = Ratio::whole(i128::from(q.delay));
     let speed = sensed(q, q.v);
-    let target = speed.max(sensed(q, q.upper_target));
-    gaining(speed, target, q.upper_strength, t)
+    let before = t.min(d);
+    let during = trapezoid(speed, speed + e * before, before);
+    if t <= d {
+        return during;
+    }
+    let at_delay = speed + e * d;
+    let target = at_delay.max(sensed(q, q.upper_target));
+    during + gaining(at_delay, target, q.upper_strength, t - d)
 }

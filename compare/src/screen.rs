@@ -137,7 +137,7 @@ fn faster(q: &Question) -> i64 {
     }
 }
 
-pub const DRAWING_CLASSES: [DrawingClass; 20] = [
+pub const DRAWING_CLASSES: [DrawingClass; 21] = [
     ("one piece: d = 0, G = 0", |q, x| {
         x.is_ok() && q.delay == 0 && pieces(x).len() == 1
     }),
@@ -164,7 +164,12 @@ pub const DRAWING_CLASSES: [DrawingClass; 20] = [
     ("pieces meet after 600", |_, x| {
         pieces(x).iter().any(|piece| piece.from.seconds >= 600)
     }),
-    ("two-sided", |q, x| x.is_ok() && q.sides == 2),
+    ("two-sided, d = 0", |q, x| {
+        x.is_ok() && q.sides == 2 && q.delay == 0
+    }),
+    ("two-sided, d > 0", |q, x| {
+        x.is_ok() && q.sides == 2 && q.delay > 0
+    }),
     ("drawing refused, 1", |_, x| *x == Err(1)),
     ("drawing refused, 2", |_, x| *x == Err(2)),
     ("drawing refused, 3", |_, x| *x == Err(3)),

@@ -143,14 +143,16 @@ fn ends_of_fields(cases: &mut Vec<(String, Vec<u8>)>) {
             cases.push((format!("{name}_{value}"), sheet));
         }
     }
-    for (name, at, values) in [
-        ("delay", 19, &[0u16, 1, 60, 61, 65_535][..]),
-        ("limit", 21, &[0, 1, 2, 600, 601, 65_534, 65_535][..]),
-    ] {
-        for &value in values {
-            let question = changed(FREE, at, &value.to_be_bytes());
-            let sheet = joined(&[hex(ENCOUNTER), question]);
-            cases.push((format!("{name}_{value}"), sheet));
+    for (sides, record) in [("", FREE), ("two_", TWO_SIDED)] {
+        for (name, at, values) in [
+            ("delay", 19, &[0u16, 1, 60, 61, 65_535][..]),
+            ("limit", 21, &[0, 1, 2, 600, 601, 65_534, 65_535][..]),
+        ] {
+            for &value in values {
+                let question = changed(record, at, &value.to_be_bytes());
+                let sheet = joined(&[hex(ENCOUNTER), question]);
+                cases.push((format!("{sides}{name}_{value}"), sheet));
+            }
         }
     }
 }

@@ -1,7 +1,7 @@
 //! The worked questions: M1 to M15, those in rows, and further edges by name.
 
 use crate::examples::{BASE, TWO, marked};
-use crate::independent::{Answer, NAMES, Question, RANGES, judge};
+use crate::independent::{Answer, NAMES, Question, RANGES, Time, judge};
 use crate::rows;
 use crate::sheet::coded_question;
 
@@ -74,6 +74,7 @@ pub fn groups() -> Vec<Group> {
         speed_group(),
         no_end_group(),
         two_sided_group(),
+        two_sided_delays_group(),
         ends_group(),
         rounding_group(),
     ]);
@@ -765,6 +766,317 @@ fn two_sided_group() -> Group {
     )
 }
 
+/// Two-sided questions with a delay, worked by hand.
+fn two_sided_delays() -> Vec<(&'static str, Question, Answer)> {
+    let at = |h, q: Question| Question { h, ..q };
+    let until = |limit, q: Question| Question { limit, ..q };
+    let beyond = |upper_target, q: Question| Question { upper_target, ..q };
+    let turned = |q: Question| Question {
+        sense: 0,
+        h: -q.h,
+        v: -q.v,
+        vi: -q.vi,
+        target: -q.target,
+        upper_target: -q.upper_target,
+        ..q
+    };
+    let whole = |seconds| Time {
+        seconds,
+        remainder: 0,
+        divisor: 1,
+    };
+    let both = |lower, upper| Answer::BothConflict(whole(lower), whole(upper));
+    let (lower_clear, upper_clear) = (Answer::Clear(1), Answer::Clear(2));
+    // The upper path is at 483 t², at d at 12,075 with speed 4,830. The window has no end.
+    let slow = Question { delay: 5, ..TWO };
+    // The window ends at 10.
+    let passing = Question { c: 3_000, ..slow };
+    let coasting = Question {
+        e: 0,
+        delay: 60,
+        v: 100,
+        ..TWO
+    };
+    // The window ends at 30.
+    let turning_below = Question {
+        c: 1_000,
+        target: 1_500,
+        upper_target: 1_500,
+        strength: 483,
+        ..slow
+    };
+    let turning = Question {
+        v: -1_000,
+        e: 1_000,
+        ..slow
+    };
+    // The window is from 1/2 to 3/2.
+    let valley = Question {
+        r: 30_000,
+        c: 30_000,
+        p: 15_000,
+        ..turning
+    };
+    let half = Time {
+        seconds: 0,
+        remainder: 1,
+        divisor: 2,
+    };
+    // 20,000 t + 1,000 t²; at 60: 4,800,000, with speed 140,000.
+    let steepest = Question {
+        h: 480_000,
+        e: 2_000,
+        delay: 60,
+        v: 10_000,
+        vi: -10_000,
+        target: -10_000,
+        upper_target: 10_000,
+        strength: 1,
+        upper_strength: 2_000,
+        ..TWO
+    };
+    // The window is from 11,940,000 to 12,060,000.
+    let late = |q: Question| Question {
+        r: 12_000_000,
+        c: 1,
+        p: 60_000,
+        ..q
+    };
+    let longest = Question {
+        h: 480_000,
+        k: 1,
+        e: 0,
+        v: -10_000,
+        vi: 9_999,
+        target: -10_000,
+        upper_target: 10_000,
+        strength: 1,
+        upper_strength: 1,
+        delay: 60,
+        ..TWO
+    };
+    // The window is from 5 to 11.
+    let proved = Question {
+        r: 80_000,
+        c: 10_000,
+        delay: 8,
+        ..TWO
+    };
+    vec![
+        // the examples that are proved
+        ("D1", at(60_097, proved), upper_clear),
+        ("D2", at(60_096, proved), both(5, 11)),
+        ("D3", at(30_000, proved), both(5, 11)),
+        // a limit inside the delay, at d and after it; the delay longer than the limit
+        ("limit-in-delay", at(13_728, until(4, slow)), both(0, 4)),
+        (
+            "limit-in-delay-clear",
+            at(13_729, until(4, slow)),
+            upper_clear,
+        ),
+        ("limit-at-delay", at(18_075, until(5, slow)), both(0, 5)),
+        (
+            "limit-at-delay-clear",
+            at(18_076, until(5, slow)),
+            upper_clear,
+        ),
+        ("limit-after-delay", at(22_905, until(6, slow)), both(0, 6)),
+        (
+            "limit-after-delay-clear",
+            at(22_906, until(6, slow)),
+            upper_clear,
+        ),
+        (
+            "delay-after-limit",
+            Question {
+                delay: 60,
+                ..at(13_728, until(4, slow))
+            },
+            both(0, 4),
+        ),
+        (
+            "delay-after-limit-clear",
+            Question {
+                delay: 60,
+                ..at(13_729, until(4, slow))
+            },
+            upper_clear,
+        ),
+        ("limit-0", at(6_000, until(0, slow)), both(0, 0)),
+        ("limit-0-clear", at(6_001, until(0, slow)), upper_clear),
+        // u + e d above the upper target: 12,075 + 5 × 4,830
+        ("reached-above-target", at(42_225, passing), both(0, 10)),
+        (
+            "reached-above-target-clear",
+            at(42_226, passing),
+            upper_clear,
+        ),
+        (
+            "reached-at-target",
+            at(42_225, beyond(4_830, passing)),
+            both(0, 10),
+        ),
+        (
+            "reached-at-target-clear",
+            at(42_226, beyond(4_830, passing)),
+            upper_clear,
+        ),
+        (
+            "u-above-target",
+            Question {
+                v: 3_000,
+                ..at(72_225, passing)
+            },
+            both(0, 10),
+        ),
+        (
+            "u-above-target-clear",
+            Question {
+                v: 3_000,
+                ..at(72_226, passing)
+            },
+            upper_clear,
+        ),
+        // below it: 12,075 + 5 × 6,000 − 1,170²/1,000 = 40,706.1; at 6 on the arc, 17,155
+        (
+            "reached-below-target",
+            at(46_706, beyond(6_000, passing)),
+            both(0, 10),
+        ),
+        (
+            "reached-below-target-clear",
+            at(46_707, beyond(6_000, passing)),
+            upper_clear,
+        ),
+        (
+            "arc-after-delay",
+            at(23_155, until(6, beyond(6_000, slow))),
+            both(0, 6),
+        ),
+        (
+            "arc-after-delay-clear",
+            at(23_156, until(6, beyond(6_000, slow))),
+            upper_clear,
+        ),
+        // e = 0: 100 t
+        ("coasting", at(12_000, until(60, coasting)), both(0, 60)),
+        (
+            "coasting-clear",
+            at(12_001, until(60, coasting)),
+            upper_clear,
+        ),
+        (
+            "coasting-after",
+            at(12_100, until(61, coasting)),
+            both(0, 61),
+        ),
+        // no end: the first whole second in the delay, at d, after it; d itself would be later
+        ("no-end-in-delay", at(10_347, slow), both(0, 3)),
+        ("no-end-in-delay-next", at(10_348, slow), both(0, 4)),
+        ("no-end-at-delay", at(18_075, slow), both(0, 5)),
+        ("no-end-after-delay", at(18_076, slow), both(0, 6)),
+        ("no-end-delay-is-no-instant", at(6_001, slow), both(0, 1)),
+        // 201,679,999 = 60 + (479,999 + 60 × 19,999 + 20,000²/2) / 1; the lower path sinks
+        ("no-end-longest", longest, both(0, 201_679_999)),
+        (
+            "no-end-longest-descend",
+            turned(longest),
+            both(0, 201_679_999),
+        ),
+        (
+            "no-end-one-second-sooner",
+            Question {
+                h: 479_999,
+                ..longest
+            },
+            both(0, 201_679_998),
+        ),
+        // with an end: d, at which 12,075 conflicts, is not tried on the upper side
+        ("delay-is-no-instant", at(6_001, passing), both(0, 10)),
+        (
+            "delay-is-no-instant-descend",
+            turned(at(6_001, passing)),
+            both(0, 10),
+        ),
+        // the delay on both sides: the lower path turns at 15 at −36,225, as M10's
+        ("both-paths", at(-42_225, turning_below), both(15, 0)),
+        ("both-paths-clear", at(-42_226, turning_below), lower_clear),
+        (
+            "both-paths-descend",
+            turned(at(-42_225, turning_below)),
+            both(15, 0),
+        ),
+        // −1,000 t + 500 t²: 1,500 at 3; −375 at 1/2 and at 3/2, less between them
+        ("turns-in-delay", at(7_500, until(3, turning)), both(0, 3)),
+        (
+            "turns-in-delay-clear",
+            at(7_501, until(3, turning)),
+            upper_clear,
+        ),
+        (
+            "valley-in-delay",
+            at(5_625, valley),
+            Answer::BothConflict(half, half),
+        ),
+        ("valley-in-delay-clear", at(5_626, valley), upper_clear),
+        // 4 2/7: 483 × 900/49 = 8,871.4
+        (
+            "fraction-in-delay",
+            Question {
+                c: 7_000,
+                h: 14_871,
+                ..slow
+            },
+            Answer::BothConflict(
+                whole(0),
+                Time {
+                    seconds: 4,
+                    remainder: 2,
+                    divisor: 7,
+                },
+            ),
+        ),
+        (
+            "fraction-in-delay-clear",
+            Question {
+                c: 7_000,
+                h: 14_872,
+                ..slow
+            },
+            upper_clear,
+        ),
+        // the largest numbers: 429,000 at 13, 476,000 at 14; the latest windows
+        ("steepest", until(14, steepest), both(0, 14)),
+        ("steepest-clear", until(13, steepest), upper_clear),
+        (
+            "steepest-late",
+            late(steepest),
+            both(11_940_000, 11_940_000),
+        ),
+        (
+            "sinking-late",
+            late(Question {
+                target: -10_000,
+                upper_target: -10_000,
+                ..longest
+            }),
+            upper_clear,
+        ),
+    ]
+}
+
+fn two_sided_delays_group() -> Group {
+    let questions = two_sided_delays()
+        .into_iter()
+        .map(|(name, q, _)| (name, q))
+        .collect();
+    group(
+        "two_sided_delays",
+        "two-sided with a delay: the proved examples D1 to D3, limits around d, e = 0, the speed reached around the upper target, no end, d no instant of the upper side, both paths, the longest search, the largest numbers",
+        questions,
+    )
+}
+
 fn ends_group() -> Group {
     let lowest = Question {
         r: -12_000_000,
@@ -810,7 +1122,6 @@ fn ends_group() -> Group {
                 "ends-highest-two-sided",
                 Question {
                     sides: 2,
-                    delay: 0,
                     upper_target: 10_000,
                     upper_strength: 2_000,
                     ..highest
@@ -1113,10 +1424,12 @@ fn given_group() -> Group {
 }
 
 fn times_group() -> Group {
+    let mut fields = outside(BASE, &[14, 15]);
+    fields.extend(outside(TWO, &[14, 15]));
     refusal_group(
         "refusal_6",
-        "refusal 6: each end of each field, limits around 65,535, a two-sided delay",
-        outside(BASE, &[14, 15]),
+        "refusal 6: each end of each field, limits around 65,535; a two-sided delay within its limits is judged",
+        fields,
         vec![
             (
                 "refuse-limit-65534",
@@ -1132,7 +1445,19 @@ fn times_group() -> Group {
                     ..BASE
                 },
             ),
-            ("refuse-two-sided-delay", Question { delay: 1, ..TWO }),
+            ("accept-two-sided-delay", Question { delay: 1, ..TWO }),
+            (
+                "accept-two-sided-longest-delay",
+                Question { delay: 60, ..DOWN },
+            ),
+            (
+                "accept-two-sided-delay-after-limit",
+                Question {
+                    delay: 60,
+                    limit: 0,
+                    ..TWO
+                },
+            ),
         ],
     )
 }
@@ -1287,6 +1612,13 @@ mod tests {
             ["accept", ..] => 0,
             ["refuse", first, ..] if group == "several_refusals" => number(first).unwrap(),
             _ => number(group.trim_start_matches("refusal_")).unwrap(),
+        }
+    }
+
+    #[test]
+    fn two_sided_delays_are_answered_as_by_hand() {
+        for (name, q, wanted) in two_sided_delays() {
+            assert_eq!(judge(&q), wanted, "{name}");
         }
     }
 

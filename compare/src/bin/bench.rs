@@ -52,11 +52,15 @@ const fn search(
     }
 }
 
-/// The first three have no search.
-const CLASSES: [Class; 5] = [
+/// How many of the first are averaged.
+const AVERAGED: usize = 3;
+
+/// The first four have no search.
+const CLASSES: [Class; 6] = [
     class("one-sided", one_sided, |x| x.window().is_some()),
     class("two-sided", two_sided, |x| x.window().is_some()),
     class("delayed", delayed, |x| x.window().is_some()),
+    class("two-delayed", two_delayed, |x| x.window().is_some()),
     class("no-end-lower", no_end_lower, |x| lower_second(x).is_some()),
     class("no-end-upper", no_end_upper, |x| upper_second(x).is_some()),
 ];
@@ -129,6 +133,13 @@ fn delayed(random: &mut Random) -> Question {
     Question {
         delay: random.between(1, 15),
         ..one_sided(random)
+    }
+}
+
+fn two_delayed(random: &mut Random) -> Question {
+    Question {
+        delay: random.between(1, 15),
+        ..two_sided(random)
     }
 }
 
@@ -271,11 +282,11 @@ fn table() {
         let questions = questions(class);
         let times = shortest(|which| pass_questions(which, &questions));
         line(class.name, "verdicts", class.inputs, times);
-        if i < 3 {
+        if i < AVERAGED {
             amount += class.inputs;
             spent = [spent[0] + times[0], spent[1] + times[1]];
         }
-        if i == 2 {
+        if i + 1 == AVERAGED {
             line("these three", "verdicts", amount, spent);
         }
     }
@@ -344,7 +355,7 @@ mod sheets {
 
 fn classes() {
     for (i, class) in CLASSES.iter().enumerate() {
-        let group = if i < 3 { "plain" } else { "no-end" };
+        let group = if i < AVERAGED { "plain" } else { "further" };
         println!("{group} {} {}", class.name, class.inputs);
     }
     #[cfg(feature = "sheets")]

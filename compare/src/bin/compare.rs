@@ -5,6 +5,7 @@
 //! met. Drawings want the feature `screen`, sheets the feature `sheets`.
 
 use compare::check::{self, Tally, argument};
+#[cfg(feature = "sheets")]
 use compare::examples;
 use compare::ffi::{self, JudgeResult};
 use compare::generate::{self, Random};

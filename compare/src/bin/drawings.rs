@@ -152,7 +152,6 @@ fn edge_files() -> Vec<File> {
         sides: 2,
         upper_target: q.target,
         upper_strength: q.strength,
-        delay: 0,
         ..q
     };
     let steep = Question {
@@ -217,17 +216,19 @@ fn edge_files() -> Vec<File> {
         ),
         file(
             "two_sided",
-            "the lower path of two-sided questions, climb and descend; the upper path is not drawn",
+            "the lower path of two-sided questions, climb and descend, with a delay and without; the upper path is not drawn",
             vec![
-                at(two(M10), 3, 4),
-                at(down(two(M10)), 3, 4),
+                at(delay(0, two(M10)), 3, 4),
+                at(delay(0, down(two(M10))), 3, 4),
+                at(two(M10), 5, 18),
+                at(down(two(M10)), 5, 18),
                 at(
                     Question {
                         upper_target: 9_000,
                         ..two(M10)
                     },
-                    3,
-                    4,
+                    5,
+                    18,
                 ),
             ],
         ),
@@ -293,7 +294,7 @@ fn edge_files() -> Vec<File> {
                 ),
                 at(
                     Question {
-                        delay: 5,
+                        delay: 61,
                         ..two(M10)
                     },
                     5,

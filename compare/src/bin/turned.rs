@@ -75,7 +75,7 @@ const EQUIVALENT: &[Equivalent] = &[
     },
     Equivalent {
         function: "upper_target",
-        turned: "if target < u {",
+        turned: "if target < speed {",
         reason: "of two equal speeds either is the larger",
     },
     Equivalent {
@@ -90,6 +90,11 @@ const EQUIVALENT: &[Equivalent] = &[
     },
     Equivalent {
         function: "lower_not_beyond",
+        turned: "if n < end {",
+        reason: "at d the rule begins at the height where the delay ends",
+    },
+    Equivalent {
+        function: "upper_not_beyond",
         turned: "if n < end {",
         reason: "at d the rule begins at the height where the delay ends",
     },

@@ -58,7 +58,7 @@ fn upper_searched(q: &Question) -> bool {
 type Class = (&'static str, fn(&Question, &Answer) -> bool);
 
 /// What must be among the generated cases.
-const CLASSES: [Class; 18] = [
+const CLASSES: [Class; 21] = [
     ("refusal 1", |_, a| *a == Answer::Refused(1)),
     ("refusal 2", |_, a| *a == Answer::Refused(2)),
     ("refusal 3", |_, a| *a == Answer::Refused(3)),
@@ -75,6 +75,15 @@ const CLASSES: [Class; 18] = [
     ("two-sided conflict", |_, a| a.kind() == 67),
     ("no end, lower whole second", |q, _| lower_searched(q)),
     ("no end, upper whole second", |q, _| upper_searched(q)),
+    ("two-sided conflict, d > 0", |q, a| {
+        a.kind() == 67 && q.delay > 0
+    }),
+    ("clear, upper side, d > 0", |q, a| {
+        *a == Answer::Clear(2) && q.delay > 0
+    }),
+    ("no end, upper whole second, d > 0", |q, _| {
+        upper_searched(q) && q.delay > 0
+    }),
     ("a number -2^63", |q, _| q.numbers().contains(&i64::MIN)),
     ("a number 2^63 - 1", |q, _| q.numbers().contains(&i64::MAX)),
 ];
@@ -177,6 +186,13 @@ fn planted_file() -> File {
         upper_target: 2_500,
         ..TWO
     };
+    // Conflicts at 0 and 10; the upper path at 5 too, the end of the delay.
+    let delayed = Question {
+        h: 6_001,
+        c: 3_000,
+        delay: 5,
+        ..TWO
+    };
     let refused = Question {
         r: 12_000_001,
         ..BASE
@@ -223,6 +239,12 @@ fn planted_file() -> File {
         ("5 for 15", behind, Answer::Refused(5)),
         ("5 for 16", given, Answer::Refused(5)),
         ("6 for 16", given_and_late, Answer::Refused(6)),
+        (
+            "the end of the delay for the window's end",
+            delayed,
+            both(time(0, 0, 1), time(5, 0, 1)),
+        ),
+        ("6 for a two-sided delay", delayed, Answer::Refused(6)),
         ("one conflict for two", conflicts, Answer::Conflict(lower)),
         ("the two exchanged", conflicts, both(upper, lower)),
         ("lower seconds", conflicts, both(time(18, 1, 7), upper)),
@@ -241,7 +263,7 @@ fn planted_file() -> File {
     };
     File {
         name: "planted".into(),
-        about: "wrong answers: a clear for a conflict and for a refusal, a conflict for a clear, other sides, another refusal, 5, 15 or 6 for 14, 15 or 16, 9 for 17, one conflict for two, each number of two times"
+        about: "wrong answers: a clear for a conflict and for a refusal, a conflict for a clear, other sides, another refusal, 5, 15 or 6 for 14, 15 or 16, 9 for 17, the end of the delay on the upper side, 6 for a two-sided delay, one conflict for two, each number of two times"
             .into(),
         cases: cases
             .into_iter()

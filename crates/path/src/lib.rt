@@ -16,7 +16,7 @@ pub struct SensedQuestion {
     // Vertically: the intruder's sensed height, and the ownship's sensed speed.
     pub level: i64,
     pub speed: i64,
-    // The advice: sensed target, strength, delay, and the acceleration away from the advice during the delay.
+    // The advice: sensed target, strength, delay, and the acceleration during the delay: away from the advice on the lower path, towards it on the upper.
     pub target: i64,
     pub strength: u64,
     pub delay: u64,
