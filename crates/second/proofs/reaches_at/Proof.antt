@@ -29,7 +29,7 @@ reaches-at-spec =
     -- the casts
     (λ c. search needs)
     (λ c. search needs)
-    -- a × y²
+    -- edge × y²
     (λ c. let z = sizes c in let i = x c in let j = y c in fits (search second-terms depth 20) tt)
     (λ c. let z = sizes c in let i = x c in let j = y c in fits (search second-terms depth 20) tt)
     -- 2 × v × x × y + g × x²

@@ -33,7 +33,7 @@ tops-spec =
     (λ c. let z = sizes c in let i = x c in let j = y c in fits (search second-terms depth 20) tt)
     (λ c. let z = sizes c in let i = x c in let j = y c in fits (search second-terms depth 20) tt)
     (λ c. let z = sizes c in let i = x c in let j = y c in fits (search second-terms depth 20) tt)
-    -- v² + g × a
+    -- v² + g × edge
     (λ c. let z = sizes c in let i = x c in let j = y c in fits (search second-terms depth 20) tt)
     (λ c. let z = sizes c in let i = x c in let j = y c in fits (search second-terms depth 20) tt)
     (λ c. let z = sizes c in let i = x c in let j = y c in fits (search second-terms depth 20) tt)
