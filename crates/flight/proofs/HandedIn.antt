@@ -1,5 +1,5 @@
 -- A flight read from numbers: how many stretches, each stretch from its two numbers, also in the sense; and the sizes, stretch by stretch. Assumes nothing.
-use mathlib.Core.Path.{_≡_, refl, sym, ap, _∙_, subst}
+use mathlib.Core.Path.{_≡_, refl, ap, _∙_, subst}
 use mathlib.Core.Bool.{Bool, true, false, _&&_}
 use mathlib.Core.List.{List, [], _∷_}
 use Prim.Native.Nat.{ℕ, zero, suc, _*_, _<_}
@@ -13,6 +13,7 @@ use Rattle.flight.specs.declared.Stretch.{Stretch}
 use Rattle.flight.specs.FlightLimits.{stretchWithin, stretchesWithin}
 use Rattle.flight.specs.HandedIn.{flightOf, paired}
 use Rattle.flight.specs.SensedFlight.{sensedStretch, sensedFlight}
+use Rattle.flight.proofs.Decides.{both-hold, second-fails, first-holds, second-holds}
 
 -- two numbers to a stretch, and one more where they are not pairs
 pub count-handed : (l : List ℤ) → T (paired l) → length l ≡ 2 * length (flightOf l)
@@ -52,26 +53,10 @@ module _ (w : Sense) where
   stretch-sensed (x ∷ l) (suc i) z z′ h = stretch-sensed l i z z′ (omega arith)
 
 -- ---- the sizes of the first i stretches, and of one more
-both : (a b : Bool) → a ≡ true → b ≡ true → (a && b) ≡ true
-both true b e f = f
-both false b e f = e
-
-second-fails : (a b : Bool) → b ≡ false → (a && b) ≡ false
-second-fails true b e = e
-second-fails false b e = refl
-
-first-holds : (a b : Bool) → (a && b) ≡ true → a ≡ true
-first-holds true b e = refl
-first-holds false b e = e
-
-second-holds : (a b : Bool) → (a && b) ≡ true → b ≡ true
-second-holds true b e = e
-second-holds false b e = absurd (subst T {x = true} {y = false} (sym e) tt)
-
 pub within-on : (l : List Stretch) (i : ℕ) (z : Stretch) → i < length l → stretchesWithin (take i l) ≡ true → stretchWithin (getD l i z) ≡ true → stretchesWithin (take (suc i) l) ≡ true
 within-on [] i z h e f = absurd (omega arith)
-within-on (x ∷ l) zero z h e f = both (stretchWithin x) true f refl
-within-on (x ∷ l) (suc i) z h e f = both (stretchWithin x) (stretchesWithin (take (suc i) l)) (first-holds (stretchWithin x) (stretchesWithin (take i l)) e)
+within-on (x ∷ l) zero z h e f = both-hold f refl
+within-on (x ∷ l) (suc i) z h e f = both-hold (first-holds (stretchWithin x) (stretchesWithin (take i l)) e)
     (within-on l i z (omega arith) (second-holds (stretchWithin x) (stretchesWithin (take i l)) e) f)
 
 pub within-all : (l : List Stretch) → stretchesWithin (take (length l) l) ≡ stretchesWithin l
@@ -81,4 +66,4 @@ within-all (x ∷ l) = ap (λ (b : Bool). stretchWithin x && b) (within-all l)
 pub stretch-outside : (l : List Stretch) (i : ℕ) (z : Stretch) → i < length l → stretchWithin (getD l i z) ≡ false → stretchesWithin l ≡ false
 stretch-outside [] i z h e = absurd (omega arith)
 stretch-outside (x ∷ l) zero z h e = ap (λ (b : Bool). b && stretchesWithin l) e
-stretch-outside (x ∷ l) (suc i) z h e = second-fails (stretchWithin x) (stretchesWithin l) (stretch-outside l i z (omega arith) e)
+stretch-outside (x ∷ l) (suc i) z h e = second-fails (stretchWithin x) (stretch-outside l i z (omega arith) e)

@@ -22,7 +22,7 @@ use Rattle.flight.specs.inner.Parts.{nearPart, bandFrom, bandTo}
 use Rattle.flight.specs.inner.Tests.{obeysDelayed, obeysAdvice, secondObeys, firstObey, obeysTest, reaches, crosses, insideAt, insideSecond, insideFrom, firstInside}
 use Rattle.flight.specs.inner.Clamped.{clamped}
 use Rattle.flight.proofs.Steps.{speed-start, height-start, speed-step, height-step}
-use Rattle.flight.proofs.Decides.{nat-decides, decided-yes, decides-not}
+use Rattle.flight.proofs.Decides.{nat-decides, decided-yes, decides-not, both-hold, second-fails}
 use Rattle.flight.proofs.PlainNumbers.{negated-size}
 use Rattle.flight.proofs.InsideTests.{second-inside}
 use Rattle.flight.proofs.NearParts.{near-part}
@@ -56,7 +56,7 @@ module _ (s : SensedQuestion) (l : List Stretch) where
 
   pub obeys-on : (n : ℕ) → firstObey s l n ≡ true → secondObeys s l n ≡ true → firstObey s l (suc n) ≡ true
   unfolding firstObey
-  obeys-on n h e = rw (h, e) refl
+  obeys-on n h e = both-hold h e
 
   pub all-obey : firstObey s l (duration l) ≡ true → obeysTest s l ≡ true
   unfolding obeysTest
@@ -64,11 +64,7 @@ module _ (s : SensedQuestion) (l : List Stretch) where
 
   still-disobeys : (n f : ℕ) → secondObeys s l n ≡ false → firstObey s l (suc n + f) ≡ false
   unfolding firstObey
-  still-disobeys n zero e = subst (λ (i : ℕ). firstObey s l i ≡ false) {x = suc n} {y = suc n + 0} (omega arith) (both-false (firstObey s l n) (secondObeys s l n) e)
-    where
-      both-false : (a b : Bool) → b ≡ false → (a && b) ≡ false
-      both-false true b e = e
-      both-false false b e = refl
+  still-disobeys n zero e = subst (λ (i : ℕ). firstObey s l i ≡ false) {x = suc n} {y = suc n + 0} (omega arith) (second-fails (firstObey s l n) e)
   still-disobeys n (suc f) e = subst (λ (i : ℕ). firstObey s l i ≡ false) {x = suc (suc n + f)} {y = suc n + suc f} (omega arith) (ap (λ (b : Bool). b && secondObeys s l (suc n + f)) (still-disobeys n f e))
 
   pub disobeys : (n : ℕ) → n < duration l → secondObeys s l n ≡ false → obeysTest s l ≡ false
