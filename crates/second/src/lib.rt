@@ -7,9 +7,10 @@ ghost use mathlib.Core.Path.{_≡_};
 ghost use Prim.Native.Nat.{_≤_};
 ghost use lib.IntN.{_+ℤ_};
 ghost use Rattle.limits.specs.Limits.{maxClosingSpeed, maxFlightSeconds};
+ghost use Rattle.path.specs.declared.Side.the-variants.{Lower};
 ghost use Rattle.path.specs.Letters.{c, p, q, a};
 ghost use Rattle.path.specs.Window.{distanceAt};
-ghost use Rattle.path.specs.inner.Sizes.{Sizes};
+ghost use Rattle.path.specs.inner.Sizes.{Sizes, InReach};
 ghost use Rattle.flight.specs.declared.Part.the-variants.{FromTo, From};
 ghost use Rattle.flight.specs.inner.Parts.{Proper, DivisorWithin, partUpTo, nearPart};
 ghost use Rattle.flight.specs.inner.Tests.{obeysAdvice, reachesAt, tops, reaches};
@@ -114,8 +115,10 @@ fn near_part(s: SensedQuestion, n: u64) -> Part
     part_up_to(c, x, ahead + p)
 }
 
-// More than twice the height can change within a second: 2·|v| + |g| is below it.
-const MOST_GAINED: i64 = 2 * (2 * MAX_SPEED + MAX_FLIGHT_ACCELERATION * MAX_FLIGHT_SECONDS) + MAX_FLIGHT_ACCELERATION + 1;
+// A flight's speed at most, and more than twice the height that a second can gain or lose: 2·|v| + |g| is below it.
+const MOST_SPEED: i64 = 2 * MAX_SPEED + MAX_FLIGHT_ACCELERATION * MAX_FLIGHT_SECONDS;
+
+const MOST_GAINED: i64 = 2 * MOST_SPEED + MAX_FLIGHT_ACCELERATION + 1;
 
 const MOST_LOST: i64 = -MOST_GAINED;
 
@@ -142,8 +145,7 @@ struct Approach {
 // Is it reached at x/y?
 fn reaches_at(to: Approach, x: u64, y: u64) -> bool
     requires { ⌜ ApproachSizes to ⌝ }
-    requires { ⌜ x ≤ maxClosingSpeed ⌝ }
-    requires { ⌜ y ≤ maxClosingSpeed ⌝ }
+    requires { ⌜ InReach Lower x y ⌝ }
     ensures { λ r. ⌜ r ≡ reachesAt (to .edge) (to .speed) (to .acceleration) x y ⌝ }
 {
     let edge = to.edge;
@@ -157,8 +159,7 @@ fn reaches_at(to: Approach, x: u64, y: u64) -> bool
 // Is there a top, x/y or later, that reaches it?
 fn tops(to: Approach, x: u64, y: u64) -> bool
     requires { ⌜ ApproachSizes to ⌝ }
-    requires { ⌜ x ≤ maxClosingSpeed ⌝ }
-    requires { ⌜ y ≤ maxClosingSpeed ⌝ }
+    requires { ⌜ InReach Lower x y ⌝ }
     ensures { λ r. ⌜ r ≡ tops (to .edge) (to .speed) (to .acceleration) x y ⌝ }
 {
     let edge = to.edge;
