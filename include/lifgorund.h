@@ -52,15 +52,15 @@ enum {
     LIFGORUND_NO_LIMIT = 65535
 };
 
-/* Refusals. 1 to 9 concern one record, 10 to 13 a whole sheet; the functions of plain numbers give 1 to 6. */
+/* Refusals. 1 to 9 and 14 to 16 concern one record, 10 to 13 a whole sheet. The functions of plain numbers give the first that holds of
+ * 1, 2, 3, 4, 5, 14, 15, 16, 6, in this order. */
 enum {
     LIFGORUND_ACCEPTED = 0,
     LIFGORUND_BAD_ENCOUNTER = 1,          /* a field of the encounter is outside its limits */
     LIFGORUND_BAD_PUCK = 2,               /* p or k is outside its limits */
     LIFGORUND_BAD_DELAY_ACCELERATION = 3, /* e is outside its limits */
     LIFGORUND_BAD_SIDES = 4,              /* sides or sense is unknown */
-    LIFGORUND_BAD_ADVICE = 5,             /* target or strength outside limits; two-sided also an upper one, an upper strength below the
-                                             strength, or an upper target before the target in the sense; one-sided also an upper one not 0 */
+    LIFGORUND_BAD_TARGET = 5,             /* target outside limits; two-sided also the upper target */
     LIFGORUND_BAD_TIMES = 6,              /* delay or limit outside limits, or a delay when two-sided; of a point also a second above 600 */
     LIFGORUND_NO_ENCOUNTER = 7,           /* a question before an accepted encounter */
     LIFGORUND_UNKNOWN_CODE = 8,           /* a code outside 1 to 18 */
@@ -68,7 +68,10 @@ enum {
     LIFGORUND_SHEET_TOO_LONG = 10,        /* more than 8,192 bytes */
     LIFGORUND_UNKNOWN_KIND = 11,          /* a record of unknown kind */
     LIFGORUND_CUT_SHORT = 12,             /* a record's body is cut short */
-    LIFGORUND_AREA_TOO_SHORT = 13         /* the answer area is shorter than the whole answer */
+    LIFGORUND_AREA_TOO_SHORT = 13,        /* the answer area is shorter than the whole answer */
+    LIFGORUND_BAD_STRENGTH = 14,          /* strength outside limits; two-sided also the upper strength, or one below the strength */
+    LIFGORUND_UPPER_TARGET_SHORT = 15,    /* two-sided: the upper target falls short of the target in the sense */
+    LIFGORUND_UPPER_FIELD_GIVEN = 16      /* one-sided: an upper field is not 0 */
 };
 
 /* Lengths in bytes: of the longest sheet, and of an area that is long enough for the answer to any sheet. */
@@ -90,8 +93,7 @@ typedef struct JudgeResult {
     uint64_t upper_divisor;
 } JudgeResult;
 
-/* Judges one question of plain numbers. Every argument may have any value: those outside the limits are refused, by the first of
- * the refusals 1 to 6 that holds. It writes no memory. */
+/* Judges one question of plain numbers. Every argument may have any value: those outside the limits are refused. It writes no memory. */
 JudgeResult judge_plain(
     int64_t r,              /* distance ahead, in grains; negative: already passed. -12,000,000 to 12,000,000 */
     int64_t h,              /* the intruder's height above the ownship, in grains. -480,000 to 480,000 */
@@ -138,7 +140,7 @@ typedef struct PieceResult {
 
 /* What screen_drawing answers. */
 typedef struct DrawingResult {
-    uint64_t refusal; /* LIFGORUND_ACCEPTED, or 1 to 6 */
+    uint64_t refusal; /* LIFGORUND_ACCEPTED, or that of judge_plain */
     uint64_t pieces;  /* one to three; of a refused question 0 */
     PieceResult first; /* from 0 */
     PieceResult second;
@@ -152,7 +154,7 @@ DrawingResult screen_drawing(
 
 /* What screen_point answers: a point of the lower path. The height is that of the drawing, times 2 * strength, and exact: a whole number. */
 typedef struct PointResult {
-    uint64_t refusal; /* LIFGORUND_ACCEPTED, or 1 to 6 */
+    uint64_t refusal; /* LIFGORUND_ACCEPTED, or that of judge_plain */
     double time;      /* the second; of a refused point 0 */
     double height;    /* of a refused point 0 */
 } PointResult;

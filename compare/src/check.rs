@@ -7,7 +7,7 @@ use crate::examples::Table1;
 use crate::figures;
 use crate::generate::{self, AREA_FORMS, AreaForm, Random, SHEET_FORMS, SheetCase, SheetForm};
 use crate::independent::{
-    Accepted, Answer, FIELDS, Moment, NAMES, Question, Side, judge, judge_accepted,
+    Accepted, Answer, FIELDS, Moment, NAMES, Question, REFUSALS, Side, judge, judge_accepted,
 };
 use crate::motion;
 use crate::screen::{self, DRAWING_CLASSES, Drawing, POINT_CLASSES, Point};
@@ -22,11 +22,14 @@ const MOMENTS: [(Moment, &str); 5] = [
     (Moment::WholeSecond, "first whole second"),
 ];
 
+/// The refusals of a sheet's records.
+const RECORD_REFUSALS: [u8; 12] = [1, 2, 3, 4, 5, 6, 7, 8, 9, 14, 15, 16];
+
 /// Counts of one run, and its first difference.
 pub struct Tally {
     questions: u64,
     verdicts: [u64; 6],
-    refusals: [u64; 6],
+    refusals: [u64; REFUSALS.len()],
     lower_moments: [u64; 5],
     upper_moments: [u64; 5],
     edges: Vec<u64>,
@@ -45,7 +48,7 @@ pub struct Tally {
     sheet_outcomes: [u64; 5],
     sheet_answers: [u64; 3],
     sheet_clear: [u64; 3],
-    sheet_refusals: [u64; 9],
+    sheet_refusals: [u64; RECORD_REFUSALS.len()],
     sheet_codes: [u64; 16],
     longest_answer: u64,
     sheet_bytes: u64,
@@ -67,7 +70,7 @@ impl Default for Tally {
         Tally {
             questions: 0,
             verdicts: [0; 6],
-            refusals: [0; 6],
+            refusals: [0; REFUSALS.len()],
             lower_moments: [0; 5],
             upper_moments: [0; 5],
             edges: vec![0; EDGES.len()],
@@ -86,7 +89,7 @@ impl Default for Tally {
             sheet_outcomes: [0; 5],
             sheet_answers: [0; 3],
             sheet_clear: [0; 3],
-            sheet_refusals: [0; 9],
+            sheet_refusals: [0; RECORD_REFUSALS.len()],
             sheet_codes: [0; 16],
             longest_answer: 0,
             sheet_bytes: 0,
@@ -116,6 +119,11 @@ fn upper_listed(x: &Accepted) -> Vec<Ratio> {
         .collect()
 }
 
+/// Adds one to the count of a refusal's number.
+fn count_refusal(counts: &mut [u64], numbers: &[u8], number: u8) {
+    counts[numbers.iter().position(|n| *n == number).unwrap()] += 1;
+}
+
 /// Adds one to the count of the entry that has this key.
 fn count<K: PartialEq>(counts: &mut [u64], keys: &[(K, &str)], key: K) {
     let i = keys.iter().position(|(k, _)| *k == key).unwrap();
@@ -141,13 +149,13 @@ impl Tally {
     pub fn question(&mut self, q: &Question, random: &mut Random) -> Answer {
         let accepted = Accepted::of(q);
         let ground = edges::grounds(q).iter().position(|ground| *ground);
-        if accepted.err() != ground.map(|i| i as u8 + 1) {
+        if accepted.err() != ground.map(|i| REFUSALS[i]) {
             self.differ(|| format!("question {q}\n  refusal against its grounds"));
         }
         let answer = match &accepted {
             Ok(x) => self.accepted(q, x, random),
             Err(number) => {
-                self.refusals[usize::from(*number) - 1] += 1;
+                count_refusal(&mut self.refusals, &REFUSALS, *number);
                 Answer::Refused(*number)
             }
         };
@@ -359,7 +367,9 @@ impl Tally {
                 }
                 Answer::Conflict(_) => self.sheet_answers[1] += 1,
                 Answer::BothConflict(..) => self.sheet_answers[2] += 1,
-                Answer::Refused(n) => self.sheet_refusals[usize::from(n) - 1] += 1,
+                Answer::Refused(n) => {
+                    count_refusal(&mut self.sheet_refusals, &RECORD_REFUSALS, n);
+                }
             }
         }
         ExpectedSheet {
@@ -391,8 +401,8 @@ impl Tally {
             out.line(*n, text);
         }
         out.title("refusals");
-        for (i, n) in self.refusals.iter().enumerate() {
-            out.line(*n, &format!("refusal {}", i + 1));
+        for (n, number) in self.refusals.iter().zip(REFUSALS) {
+            out.line(*n, &format!("refusal {number}"));
         }
         out.title("time shown, lower");
         for (n, (_, text)) in self.lower_moments.iter().zip(MOMENTS) {
@@ -457,8 +467,8 @@ impl Tally {
         for (i, n) in self.sheet_clear.iter().enumerate() {
             out.line(*n, &format!("kind 65, sides {}", i + 1));
         }
-        for (i, n) in self.sheet_refusals.iter().enumerate() {
-            out.line(*n, &format!("kind 68, refusal {}", i + 1));
+        for (n, number) in self.sheet_refusals.iter().zip(RECORD_REFUSALS) {
+            out.line(*n, &format!("kind 68, refusal {number}"));
         }
         out.title("coded questions judged");
         for (n, advice) in self.sheet_codes.iter().zip(CATALOGUE) {

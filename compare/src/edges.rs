@@ -1,7 +1,9 @@
 //! Names for what a question or a sheet exercises, so that a run can count it.
 
 use crate::exact::Ratio;
-use crate::independent::{Accepted, FIELDS, Moment, NO_LIMIT, Question, RANGES, in_range};
+use crate::independent::{
+    Accepted, FIELDS, Moment, NO_LIMIT, Question, RANGES, REFUSALS, in_range,
+};
 use std::cmp::Ordering;
 
 /// A set of up to 192 edges.
@@ -175,6 +177,26 @@ edges! {
     UpperTargetBehind: "two-sided, upper target behind, all within limits",
     UpperTargetGiven: "one-sided, upper target not 0, within limits",
     UpperStrengthGiven: "one-sided, upper strength not 0, within limits",
+    UpperTargetGivenOutside: "one-sided, upper target outside, no other ground than 16",
+    UpperStrengthGivenOutside: "one-sided, upper strength outside, no other ground than 16",
+    BehindClimbing: "15 alone, climb",
+    BehindDescending: "15 alone, descend",
+    BehindByOne: "15 alone, by one grain",
+    LessByOne: "14 alone, b = a - 1",
+    // of two grounds, and no earlier one, the first is reported
+    Order4And5: "4 before 5",
+    Order4And14: "4 before 14",
+    Order4And15: "4 before 15",
+    Order4And16: "4 before 16",
+    Order5And14: "5 before 14",
+    Order5And15: "5 before 15",
+    Order5And16: "5 before 16",
+    Order5And6: "5 before 6",
+    Order14And15: "14 before 15",
+    Order14And16: "14 before 16",
+    Order14And6: "14 before 6",
+    Order15And6: "15 before 6",
+    Order16And6: "16 before 6",
     DelayOutside: "delay outside",
     DelayTwoSided: "two-sided with a delay within limits",
     LimitOutside: "limit outside",
@@ -253,28 +275,71 @@ pub fn of(q: &Question) -> Set {
     set
 }
 
-/// The grounds for refusals 1 to 6, each by itself, as document 01 lists them.
-pub fn grounds(q: &Question) -> [bool; 6] {
+/// The grounds for the refusals of plain numbers, each by itself, as the documents list them, in the order
+/// in which they are tested.
+pub fn grounds(q: &Question) -> [bool; REFUSALS.len()] {
     let n = q.numbers();
     let outside = |i: usize| !in_range(i, n[i]);
     let w = if q.sense == 0 { -1 } else { 1 };
     let sensed = |speed: i64| w * i128::from(speed);
-    let upper = if q.sides == 2 {
-        outside(11)
-            || outside(13)
-            || q.upper_strength < q.strength
-            || sensed(q.upper_target) < sensed(q.target)
-    } else {
-        q.upper_target != 0 || q.upper_strength != 0
-    };
+    let (one, two) = (q.sides == 1, q.sides == 2);
     [
         (0..5).any(outside),
         outside(5) || outside(6),
         outside(7),
         outside(8) || outside(9),
-        outside(10) || outside(12) || upper,
-        outside(14) || (outside(15) && q.limit != NO_LIMIT) || (q.sides == 2 && q.delay != 0),
+        outside(10) || (two && outside(11)),
+        outside(12) || (two && outside(13)) || (two && q.upper_strength < q.strength),
+        two && sensed(q.upper_target) < sensed(q.target),
+        one && (q.upper_target != 0 || q.upper_strength != 0),
+        outside(14) || (outside(15) && q.limit != NO_LIMIT) || (two && q.delay != 0),
     ]
+}
+
+/// Two refusals of which the first is tested before the second.
+const ORDERED: [(u8, u8, Edge); 13] = [
+    (4, 5, Edge::Order4And5),
+    (4, 14, Edge::Order4And14),
+    (4, 15, Edge::Order4And15),
+    (4, 16, Edge::Order4And16),
+    (5, 14, Edge::Order5And14),
+    (5, 15, Edge::Order5And15),
+    (5, 16, Edge::Order5And16),
+    (5, 6, Edge::Order5And6),
+    (14, 15, Edge::Order14And15),
+    (14, 16, Edge::Order14And16),
+    (14, 6, Edge::Order14And6),
+    (15, 6, Edge::Order15And6),
+    (16, 6, Edge::Order16And6),
+];
+
+/// Adds the edges of grounds that hold together, and no earlier one.
+fn order(set: &mut Set, q: &Question) {
+    let held: Vec<u8> = REFUSALS
+        .into_iter()
+        .zip(grounds(q))
+        .filter_map(|(number, holds)| holds.then_some(number))
+        .collect();
+    set.add_if(held.len() > 1, Edge::SeveralGrounds);
+    for (first, second, edge) in ORDERED {
+        set.add_if(held[0] == first && held.contains(&second), edge);
+    }
+    let one = q.sides == 1;
+    let far = |i: usize, n: i64| one && held == [16] && !in_range(i, n);
+    set.add_if(far(11, q.upper_target), Edge::UpperTargetGivenOutside);
+    set.add_if(far(13, q.upper_strength), Edge::UpperStrengthGivenOutside);
+    let behind = held == [15];
+    set.add_if(behind && q.sense == 1, Edge::BehindClimbing);
+    set.add_if(behind && q.sense == 0, Edge::BehindDescending);
+    set.add_if(
+        behind && (q.target - q.upper_target).abs() == 1,
+        Edge::BehindByOne,
+    );
+    let strengths = in_range(12, q.strength) && in_range(13, q.upper_strength);
+    set.add_if(
+        !one && held == [14] && strengths && q.upper_strength == q.strength - 1,
+        Edge::LessByOne,
+    );
 }
 
 fn refused(set: &mut Set, q: &Question) {
@@ -299,10 +364,7 @@ fn refused(set: &mut Set, q: &Question) {
     let target_given = one && q.upper_target != 0;
     let strength_given = one && q.upper_strength != 0;
     let delay_two = two && !outside(14) && q.delay != 0;
-    set.add_if(
-        grounds(q).iter().filter(|ground| **ground).count() > 1,
-        Edge::SeveralGrounds,
-    );
+    order(set, q);
     set.add_if(n.contains(&i64::MIN), Edge::Smallest64);
     set.add_if(n.contains(&i64::MAX), Edge::Largest64);
     set.add_if(

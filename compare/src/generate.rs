@@ -73,7 +73,10 @@ const P: usize = 5;
 const K: usize = 6;
 const E: usize = 7;
 const TARGET: usize = 10;
+const UPPER_TARGET: usize = 11;
 const STRENGTH: usize = 12;
+const UPPER_STRENGTH: usize = 13;
+const DELAY: usize = 14;
 const LIMIT: usize = 15;
 
 fn into_range(field: usize, n: i128) -> i64 {
@@ -378,67 +381,114 @@ fn height(random: &mut Random, q: &mut Question, favour: Favour) {
     };
 }
 
-/// A question with one to four numbers made unacceptable, or two that do not go together.
+/// A question with one to four faults.
 pub fn spoiled(random: &mut Random, mut q: Question) -> Question {
     let count = if random.chance(1, 2) {
         1
     } else {
         random.between(2, 4)
     };
-    for i in 0..count {
-        if i == 0 && random.chance(1, 4) {
-            q = at_odds(random, q);
-            continue;
-        }
-        let field = random.below(FIELDS as u64) as usize;
-        let mut n = q.numbers();
-        n[field] = outside(random, field, n[field]);
-        q = Question::from_numbers(n);
+    for _ in 0..count {
+        q = if random.chance(2, 5) {
+            ill_advised(random, q)
+        } else {
+            let field = random.below(FIELDS as u64) as usize;
+            with_outside(random, q, field)
+        };
     }
     q
 }
 
-/// Numbers that are each within limits but do not go together.
-fn at_odds(random: &mut Random, q: Question) -> Question {
-    let w = if q.sense == 1 { 1 } else { -1 };
-    if q.sides == 1 {
-        return match random.below(3) {
-            0 => Question {
-                upper_target: random.pick(&[1, -1, 10_000, q.target]),
-                ..q
-            },
-            1 => Question {
-                upper_strength: random.pick(&[1, 2_000, q.strength]),
-                ..q
-            },
+/// The question with a field outside its limits.
+fn with_outside(random: &mut Random, q: Question, field: usize) -> Question {
+    let mut n = q.numbers();
+    n[field] = outside(random, field, n[field]);
+    Question::from_numbers(n)
+}
+
+/// A fault of the advice or its times: refusals 5, 14, 15, 16 and 6.
+fn ill_advised(random: &mut Random, q: Question) -> Question {
+    if q.sides == 2 {
+        return match random.below(8) {
+            0 => {
+                let field = random.pick(&[TARGET, UPPER_TARGET]);
+                with_outside(random, q, field)
+            }
+            1 => {
+                let field = random.pick(&[STRENGTH, UPPER_STRENGTH]);
+                with_outside(random, q, field)
+            }
+            2 => weaker_above(random, q),
+            3..=5 => behind(random, q),
+            6 => Question { sides: 1, ..q },
             _ => Question {
-                sides: 2,
-                upper_target: q.target,
-                upper_strength: q.strength,
-                delay: random.pick(&[1, 5, 60]),
+                delay: random.pick(&[1, 5, 60, 61]),
                 ..q
             },
         };
     }
-    match random.below(5) {
-        0 => Question {
-            strength: 2_000.min(q.strength + 1),
-            upper_strength: 2_000.min(q.strength + 1) - 1,
-            ..q
-        },
-        1 => Question {
-            target: (q.upper_target + w).clamp(-10_000, 10_000),
-            ..q
-        },
+    match random.below(8) {
+        0 => with_outside(random, q, TARGET),
+        1 => with_outside(random, q, STRENGTH),
         2 => Question {
-            upper_target: (q.target - w * random.between(1, 5_000)).clamp(-10_000, 10_000),
+            upper_target: random.pick(&[1, -1, 10_000, 10_001, 20_000, i64::MIN, q.target]),
             ..q
         },
-        3 => Question { sides: 1, ..q },
+        3 => Question {
+            upper_strength: random.pick(&[1, -1, 2_000, 2_001, i64::MAX, q.strength]),
+            ..q
+        },
+        4 => with_outside(random, q, DELAY),
+        5 => with_outside(random, q, LIMIT),
+        6 => behind(
+            random,
+            Question {
+                sides: 2,
+                upper_strength: q.strength,
+                ..q
+            },
+        ),
         _ => Question {
+            sides: 2,
+            upper_target: q.target,
+            upper_strength: q.strength,
             delay: random.pick(&[1, 5, 60]),
             ..q
         },
+    }
+}
+
+/// b < a, often by one.
+fn weaker_above(random: &mut Random, q: Question) -> Question {
+    let strength = q.strength.clamp(2, 2_000);
+    Question {
+        strength,
+        upper_strength: if random.chance(1, 2) {
+            strength - 1
+        } else {
+            random.between(1, strength - 1)
+        },
+        ..q
+    }
+}
+
+/// The upper target behind the target, often by one.
+fn behind(random: &mut Random, q: Question) -> Question {
+    let w = if q.sense == 1 { 1 } else { -1 };
+    let by = match random.below(3) {
+        0 | 1 => 1,
+        _ => random.between(1, 5_000),
+    };
+    if random.chance(1, 2) {
+        Question {
+            target: q.upper_target.saturating_add(w * by).clamp(-10_000, 10_000),
+            ..q
+        }
+    } else {
+        Question {
+            upper_target: q.target.saturating_sub(w * by).clamp(-10_000, 10_000),
+            ..q
+        }
     }
 }
 

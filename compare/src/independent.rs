@@ -1,4 +1,5 @@
-//! The entry for plain numbers, written from document 01 alone.
+//! The entry for plain numbers, written from document 01 and, for refusals 5 and 14 to 16, document 02,
+//! "Which part of the advice was bad".
 //!
 //! Two decisions are made apart and must agree. *Existence*: each path is cut into quadratic pieces,
 //! and the exact extreme of every piece over the window (its ends and its vertex) is compared with
@@ -233,24 +234,30 @@ pub fn in_range(field: usize, n: i64) -> bool {
     from <= n && n <= to
 }
 
-/// Whether the advice (target, upper target, strength, upper strength) is refused with 5, where
-/// sides and sense are known.
-fn advice_refused(q: &Question) -> bool {
-    if !in_range(10, q.target) || !in_range(12, q.strength) {
-        return true;
-    }
-    if q.sides == 1 {
-        return q.upper_target != 0 || q.upper_strength != 0;
-    }
-    if !in_range(11, q.upper_target) || !in_range(13, q.upper_strength) {
-        return true;
-    }
+/// Whether a target is refused with 5, where sides is known.
+fn target_refused(q: &Question) -> bool {
+    !in_range(10, q.target) || (q.sides == 2 && !in_range(11, q.upper_target))
+}
+
+/// Whether a strength is refused with 14, where sides is known.
+fn strength_refused(q: &Question) -> bool {
+    let upper_bad = !in_range(13, q.upper_strength) || q.upper_strength < q.strength;
+    !in_range(12, q.strength) || (q.sides == 2 && upper_bad)
+}
+
+/// Whether the upper target is refused with 15, where sides and sense are known.
+fn upper_target_behind(q: &Question) -> bool {
     let behind = if q.sense == 1 {
         q.upper_target < q.target
     } else {
         q.upper_target > q.target
     };
-    behind || q.upper_strength < q.strength
+    q.sides == 2 && behind
+}
+
+/// Whether an upper field is refused with 16, where sides is known.
+fn upper_field_given(q: &Question) -> bool {
+    q.sides == 1 && (q.upper_target != 0 || q.upper_strength != 0)
 }
 
 /// Whether delay or limit are refused with 6, where sides is known.
@@ -260,12 +267,18 @@ fn timing_refused(q: &Question) -> bool {
     limit_bad || delay_bad
 }
 
-/// The refusals of the question itself, 4 to 6.
+/// The refusals of the question itself: 4, 5, 14, 15, 16, 6.
 pub fn question_refusal(q: &Question) -> Option<u8> {
     if !in_range(8, q.sides) || !in_range(9, q.sense) {
         Some(4)
-    } else if advice_refused(q) {
+    } else if target_refused(q) {
         Some(5)
+    } else if strength_refused(q) {
+        Some(14)
+    } else if upper_target_behind(q) {
+        Some(15)
+    } else if upper_field_given(q) {
+        Some(16)
     } else if timing_refused(q) {
         Some(6)
     } else {
@@ -273,7 +286,10 @@ pub fn question_refusal(q: &Question) -> Option<u8> {
     }
 }
 
-/// The refusal of plain numbers: 1 to 6 in rising order.
+/// The refusals of plain numbers in the order in which they are tested.
+pub const REFUSALS: [u8; 9] = [1, 2, 3, 4, 5, 14, 15, 16, 6];
+
+/// The refusal of plain numbers: 1, 2, 3, then the question's.
 pub fn refusal(q: &Question) -> Option<u8> {
     let n = q.numbers();
     let bad = |fields: std::ops::Range<usize>| fields.into_iter().any(|i| !in_range(i, n[i]));

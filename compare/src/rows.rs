@@ -451,12 +451,12 @@ fn field_groups() -> [Group; 4] {
         ),
         group(
             "repaired_from_least",
-            "one-sided: all fields -2^63, repaired one after the other: the lowest refusal",
+            "one-sided: all fields -2^63, repaired one after the other: the first refusal",
             repaired(i64::MIN, &ONE_SIDED),
         ),
         group(
             "repaired_from_greatest",
-            "two-sided: all fields 2^63 - 1, repaired one after the other: the lowest refusal",
+            "two-sided: all fields 2^63 - 1, repaired one after the other: the first refusal",
             repaired(i64::MAX, &TWO_SIDED),
         ),
     ]

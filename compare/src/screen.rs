@@ -137,7 +137,7 @@ fn faster(q: &Question) -> i64 {
     }
 }
 
-pub const DRAWING_CLASSES: [DrawingClass; 17] = [
+pub const DRAWING_CLASSES: [DrawingClass; 20] = [
     ("one piece: d = 0, G = 0", |q, x| {
         x.is_ok() && q.delay == 0 && pieces(x).len() == 1
     }),
@@ -170,10 +170,13 @@ pub const DRAWING_CLASSES: [DrawingClass; 17] = [
     ("drawing refused, 3", |_, x| *x == Err(3)),
     ("drawing refused, 4", |_, x| *x == Err(4)),
     ("drawing refused, 5", |_, x| *x == Err(5)),
+    ("drawing refused, 14", |_, x| *x == Err(14)),
+    ("drawing refused, 15", |_, x| *x == Err(15)),
+    ("drawing refused, 16", |_, x| *x == Err(16)),
     ("drawing refused, 6", |_, x| *x == Err(6)),
 ];
 
-pub const POINT_CLASSES: [PointClass; 17] = [
+pub const POINT_CLASSES: [PointClass; 20] = [
     ("second 0", |_, t, x| x.is_ok() && t == 0),
     ("second d, d > 0", |q, t, x| {
         x.is_ok() && q.delay > 0 && t == q.delay as u64
@@ -201,13 +204,16 @@ pub const POINT_CLASSES: [PointClass; 17] = [
         refusal(q).is_none() && t >= 1 << 63 && *x == Err(6)
     }),
     ("late, but another refusal", |_, t, x| {
-        t > LAST_SECOND && x.is_err_and(|number| number < 6)
+        t > LAST_SECOND && x.is_err_and(|number| number != 6)
     }),
     ("point refused, 1", |_, _, x| *x == Err(1)),
     ("point refused, 2", |_, _, x| *x == Err(2)),
     ("point refused, 3", |_, _, x| *x == Err(3)),
     ("point refused, 4", |_, _, x| *x == Err(4)),
     ("point refused, 5", |_, _, x| *x == Err(5)),
+    ("point refused, 14", |_, _, x| *x == Err(14)),
+    ("point refused, 15", |_, _, x| *x == Err(15)),
+    ("point refused, 16", |_, _, x| *x == Err(16)),
     ("point refused, 6", |_, t, x| {
         t <= LAST_SECOND && *x == Err(6)
     }),

@@ -5,6 +5,7 @@ use crate::generate::{coded_record, sheet as generated};
 
 const ENCOUNTER: &str = "01 00000000 FFFFE4A8 00002710 FFFFFC18 00000000";
 const FREE: &str = "05 01 01 00000000 00000000 000001F4 00000000 0000 FFFF";
+const TWO_SIDED: &str = "05 02 01 00000000 000005DC 000001F4 000003E8 0000 FFFF";
 const PUCK: &str = "02 00007530 00001770";
 const DELAY_ACCELERATION: &str = "03 000003C6";
 const CODED: &str = "04 0C FFFF";
@@ -78,7 +79,7 @@ fn codes(cases: &mut Vec<(String, Vec<u8>)>) {
 
 /// Each 4-byte field at its first and last value, and one beyond, then a question that shows what is stored.
 fn ends_of_fields(cases: &mut Vec<(String, Vec<u8>)>) {
-    let fields: [(&str, &str, usize, i32, i32); 12] = [
+    let fields: [(&str, &str, usize, i32, i32); 16] = [
         ("distance", ENCOUNTER, 1, -12_000_000, 12_000_000),
         ("height", ENCOUNTER, 5, -480_000, 480_000),
         ("closing_speed", ENCOUNTER, 9, 0, 150_000),
@@ -91,6 +92,10 @@ fn ends_of_fields(cases: &mut Vec<(String, Vec<u8>)>) {
         ("upper_target", FREE, 7, 0, 0),
         ("strength", FREE, 11, 1, 2_000),
         ("upper_strength", FREE, 15, 0, 0),
+        ("two_target", TWO_SIDED, 3, -10_000, 1_500),
+        ("two_upper_target", TWO_SIDED, 7, 0, 10_000),
+        ("two_strength", TWO_SIDED, 11, 1, 1_000),
+        ("two_upper_strength", TWO_SIDED, 15, 500, 2_000),
     ];
     for (name, record, at, least, most) in fields {
         for (end, number) in [

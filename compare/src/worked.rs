@@ -1,7 +1,7 @@
 //! The worked questions: M1 to M15, those in rows, and further edges by name.
 
 use crate::examples::{BASE, TWO, marked};
-use crate::independent::{Answer, Question, judge};
+use crate::independent::{Answer, NAMES, Question, RANGES, judge};
 use crate::rows;
 use crate::sheet::coded_question;
 
@@ -945,88 +945,200 @@ fn rounding_group() -> Group {
     )
 }
 
-fn refusal_groups() -> Vec<Group> {
-    use crate::independent::{NAMES, RANGES};
-    let outside = |base: Question, fields: &[usize]| -> Vec<(String, Question)> {
-        let mut cases = Vec::new();
-        for &field in fields {
-            let (from, to) = RANGES[field];
-            for (side, n) in [("below", from - 1), ("above", to + 1)] {
-                let mut numbers = base.numbers();
-                numbers[field] = n;
-                let name = format!("refuse-{}-{}", NAMES[field], side);
-                cases.push((name, Question::from_numbers(numbers)));
-            }
+/// Each of the fields below its limits and above them.
+fn outside(base: Question, fields: &[usize]) -> Vec<(String, Question)> {
+    let mut cases = Vec::new();
+    for &field in fields {
+        let (from, to) = RANGES[field];
+        for (side, n) in [("below", from - 1), ("above", to + 1)] {
+            let mut numbers = base.numbers();
+            numbers[field] = n;
+            let sides = if base.sides == 1 { "" } else { "two-" };
+            let name = format!("refuse-{sides}{}-{}", NAMES[field], side);
+            cases.push((name, Question::from_numbers(numbers)));
         }
-        cases
+    }
+    cases
+}
+
+/// `refuse-` before a question's name: refused with the group's number; `accept-`: judged.
+fn refusal_group(
+    name: &'static str,
+    about: &'static str,
+    fields: Vec<(String, Question)>,
+    further: Vec<(&str, Question)>,
+) -> Group {
+    let named = |(name, q): (&str, Question)| (name.to_string(), q);
+    let further = further.into_iter().map(named);
+    Group::new(name, about, fields.into_iter().chain(further))
+}
+
+const DOWN: Question = Question { sense: 0, ..TWO };
+
+fn with_targets(target: i64, upper_target: i64, q: Question) -> Question {
+    Question {
+        target,
+        upper_target,
+        ..q
+    }
+}
+
+fn with_strengths(strength: i64, upper_strength: i64, q: Question) -> Question {
+    Question {
+        strength,
+        upper_strength,
+        ..q
+    }
+}
+
+fn targets_group() -> Group {
+    let mut fields = outside(BASE, &[10]);
+    fields.extend(outside(TWO, &[11]));
+    refusal_group(
+        "refusal_5",
+        "refusal 5: a target outside its limits, two-sided either of them; at their ends they are judged",
+        fields,
+        vec![
+            ("refuse-climb-target", with_targets(-10_001, 0, TWO)),
+            ("refuse-descend-target", with_targets(10_001, 0, DOWN)),
+            ("refuse-both-targets", with_targets(-10_001, 10_001, TWO)),
+            (
+                "refuse-target-in-32-bits",
+                Question {
+                    target: 1 << 32,
+                    ..BASE
+                },
+            ),
+            ("accept-climb-ends", with_targets(-10_000, 10_000, TWO)),
+            ("accept-descend-ends", with_targets(10_000, -10_000, DOWN)),
+        ],
+    )
+}
+
+fn strengths_group() -> Group {
+    let mut fields = outside(BASE, &[12]);
+    fields.extend(outside(TWO, &[12, 13]));
+    refusal_group(
+        "refusal_14",
+        "refusal 14: a strength outside its limits, two-sided either of them, or b < a; b = a is judged",
+        fields,
+        vec![
+            ("refuse-less-by-one", with_strengths(500, 499, TWO)),
+            ("refuse-least", with_strengths(2, 1, TWO)),
+            ("refuse-most", with_strengths(2_000, 1_999, DOWN)),
+            ("refuse-far-less", with_strengths(2_000, 1, DOWN)),
+            ("refuse-both-0", with_strengths(0, 0, TWO)),
+            ("refuse-both-2001", with_strengths(2_001, 2_001, TWO)),
+            (
+                "refuse-upper-2001-lower-2000",
+                with_strengths(2_000, 2_001, TWO),
+            ),
+            ("accept-equal", with_strengths(499, 499, TWO)),
+            ("accept-equal-least", with_strengths(1, 1, DOWN)),
+            ("accept-equal-most", with_strengths(2_000, 2_000, TWO)),
+            ("accept-more-by-one", with_strengths(499, 500, TWO)),
+            ("accept-far-more", with_strengths(1, 2_000, DOWN)),
+        ],
+    )
+}
+
+fn behind_group() -> Group {
+    let rising = |q: Question| Question { vi: 5_000, ..q };
+    refusal_group(
+        "refusal_15",
+        "refusal 15: the upper target behind the target in the sense, climb and descend, by one and by all; equal targets are judged",
+        Vec::new(),
+        vec![
+            ("refuse-climb", with_targets(0, -1, TWO)),
+            ("refuse-descend", with_targets(0, 1, DOWN)),
+            ("refuse-climb-least", with_targets(-9_999, -10_000, TWO)),
+            ("refuse-descend-least", with_targets(9_999, 10_000, DOWN)),
+            ("refuse-climb-most", with_targets(10_000, 9_999, TWO)),
+            ("refuse-descend-most", with_targets(-10_000, -9_999, DOWN)),
+            ("refuse-climb-by-all", with_targets(10_000, -10_000, TWO)),
+            ("refuse-descend-by-all", with_targets(-10_000, 10_000, DOWN)),
+            (
+                "refuse-climb-intruder-rising",
+                rising(with_targets(1, 0, TWO)),
+            ),
+            (
+                "refuse-descend-intruder-rising",
+                rising(with_targets(0, 1, DOWN)),
+            ),
+            ("accept-climb-equal", with_targets(-1, -1, TWO)),
+            ("accept-descend-equal", with_targets(1, 1, DOWN)),
+            ("accept-climb-equal-most", with_targets(10_000, 10_000, TWO)),
+            (
+                "accept-descend-equal-most",
+                with_targets(-10_000, -10_000, DOWN),
+            ),
+            ("accept-climb-beyond", with_targets(0, 1, TWO)),
+            ("accept-descend-beyond", with_targets(0, -1, DOWN)),
+        ],
+    )
+}
+
+fn given_group() -> Group {
+    let one = |upper_target, upper_strength| Question {
+        upper_target,
+        upper_strength,
+        ..BASE
     };
-    let mut five = outside(BASE, &[10, 12]);
-    five.extend(outside(TWO, &[11, 13]));
-    let odd = |name: &str, q: Question| (name.to_string(), q);
-    five.extend([
-        odd(
-            "refuse-one-sided-upper-target",
-            Question {
-                upper_target: 1,
-                ..BASE
-            },
-        ),
-        odd(
-            "refuse-one-sided-upper-strength",
-            Question {
-                upper_strength: 500,
-                ..BASE
-            },
-        ),
-        odd(
-            "refuse-upper-strength-less",
-            Question {
-                upper_strength: 499,
-                ..TWO
-            },
-        ),
-        odd(
-            "refuse-climb-upper-target-behind",
-            Question {
-                upper_target: -1,
-                ..TWO
-            },
-        ),
-        odd(
-            "refuse-descend-upper-target-behind",
-            Question {
-                sense: 0,
-                upper_target: 1,
-                ..TWO
-            },
-        ),
-        odd(
-            "accept-descend-upper-target-beyond",
-            Question {
-                sense: 0,
-                upper_target: -1,
-                ..TWO
-            },
-        ),
-    ]);
-    let mut six = outside(BASE, &[14, 15]);
-    six.extend([
-        odd(
-            "refuse-limit-65534",
-            Question {
-                limit: 65_534,
-                ..BASE
-            },
-        ),
-        odd(
-            "refuse-limit-65536",
-            Question {
-                limit: 65_536,
-                ..BASE
-            },
-        ),
-        odd("refuse-two-sided-delay", Question { delay: 1, ..TWO }),
-    ]);
+    let down = |q: Question| Question { sense: 0, ..q };
+    refusal_group(
+        "refusal_16",
+        "refusal 16: an upper field of a one-sided question not 0, within the limits of two-sided ones and outside: 20,000 is no 5, 2,001 no 14",
+        Vec::new(),
+        vec![
+            ("refuse-target-1", one(1, 0)),
+            ("refuse-target-minus-1", one(-1, 0)),
+            ("refuse-target-10000", one(10_000, 0)),
+            ("refuse-target-10001", one(10_001, 0)),
+            ("refuse-target-20000", one(20_000, 0)),
+            ("refuse-descend-target-20000", down(one(20_000, 0))),
+            ("refuse-target-minus-20000", one(-20_000, 0)),
+            ("refuse-target-least", one(i64::MIN, 0)),
+            ("refuse-target-in-32-bits", one(1 << 32, 0)),
+            ("refuse-strength-1", one(0, 1)),
+            ("refuse-strength-minus-1", one(0, -1)),
+            ("refuse-strength-less", one(0, 499)),
+            ("refuse-strength-equal", one(0, 500)),
+            ("refuse-strength-2001", one(0, 2_001)),
+            ("refuse-descend-strength-2001", down(one(0, 2_001))),
+            ("refuse-strength-most", one(0, i64::MAX)),
+            ("refuse-both", one(1, 500)),
+            ("accept-both-0", one(0, 0)),
+        ],
+    )
+}
+
+fn times_group() -> Group {
+    refusal_group(
+        "refusal_6",
+        "refusal 6: each end of each field, limits around 65,535, a two-sided delay",
+        outside(BASE, &[14, 15]),
+        vec![
+            (
+                "refuse-limit-65534",
+                Question {
+                    limit: 65_534,
+                    ..BASE
+                },
+            ),
+            (
+                "refuse-limit-65536",
+                Question {
+                    limit: 65_536,
+                    ..BASE
+                },
+            ),
+            ("refuse-two-sided-delay", Question { delay: 1, ..TWO }),
+        ],
+    )
+}
+
+/// The first number in a question's name is the one it is refused with.
+fn several_group() -> Group {
     let all = Question {
         r: i64::MIN,
         p: i64::MAX,
@@ -1036,50 +1148,104 @@ fn refusal_groups() -> Vec<Group> {
         delay: 61,
         ..BASE
     };
-    let several = vec![
-        odd("refuse-all-six", all),
-        odd("refuse-2-to-6", Question { r: 0, ..all }),
-        odd("refuse-3-to-6", Question { r: 0, p: 0, ..all }),
-        odd(
-            "refuse-4-to-6",
-            Question {
-                r: 0,
-                p: 0,
-                e: 0,
-                ..all
-            },
-        ),
-        odd(
-            "refuse-5-and-6",
-            Question {
-                r: 0,
-                p: 0,
-                e: 0,
-                sides: 1,
-                ..all
-            },
-        ),
-        odd(
-            "refuse-6-alone",
-            Question {
-                r: 0,
-                p: 0,
-                e: 0,
-                sides: 1,
-                target: 0,
-                ..all
-            },
-        ),
-        odd(
-            "refuse-smallest-64-bit",
-            Question::from_numbers([i64::MIN; 16]),
-        ),
-        odd(
-            "refuse-largest-64-bit",
-            Question::from_numbers([i64::MAX; 16]),
-        ),
-        odd("refuse-wraps-to-zero", Question { h: 1 << 32, ..BASE }),
-    ];
+    let late = |q: Question| Question { delay: 61, ..q };
+    let long = |q: Question| Question { limit: 601, ..q };
+    let odd = |q: Question| Question { sense: 2, ..q };
+    let one = |target, upper_target, strength, upper_strength| {
+        let upper = Question {
+            upper_strength,
+            ..BASE
+        };
+        with_targets(target, upper_target, Question { strength, ..upper })
+    };
+    let weak = with_strengths(500, 499, TWO);
+    group(
+        "several_refusals",
+        "several refusals at once: the first of 1, 2, 3, 4, 5, 14, 15, 16, 6; each two that can meet",
+        vec![
+            ("refuse-1-before-all", all),
+            ("refuse-2-to-6", Question { r: 0, ..all }),
+            ("refuse-3-to-6", Question { r: 0, p: 0, ..all }),
+            (
+                "refuse-4-to-6",
+                Question {
+                    r: 0,
+                    p: 0,
+                    e: 0,
+                    ..all
+                },
+            ),
+            (
+                "refuse-1-least-64-bit",
+                Question::from_numbers([i64::MIN; 16]),
+            ),
+            (
+                "refuse-1-largest-64-bit",
+                Question::from_numbers([i64::MAX; 16]),
+            ),
+            ("refuse-1-wraps-to-zero", Question { h: 1 << 32, ..BASE }),
+            (
+                "refuse-3-and-5",
+                Question {
+                    e: -1,
+                    ..one(10_001, 0, 500, 0)
+                },
+            ),
+            ("refuse-3-and-14", Question { e: -1, ..weak }),
+            (
+                "refuse-3-and-15",
+                Question {
+                    e: 2_001,
+                    ..with_targets(1, 0, TWO)
+                },
+            ),
+            (
+                "refuse-3-and-16",
+                Question {
+                    e: 2_001,
+                    ..one(0, 1, 500, 0)
+                },
+            ),
+            ("refuse-4-and-5", odd(one(10_001, 0, 500, 0))),
+            ("refuse-4-and-14", odd(weak)),
+            ("refuse-4-and-15", odd(with_targets(1, 0, TWO))),
+            ("refuse-4-and-15-down", odd(with_targets(0, 1, TWO))),
+            ("refuse-4-and-16", odd(one(0, 1, 500, 0))),
+            ("refuse-4-three-sides", Question { sides: 3, ..TWO }),
+            ("refuse-5-and-14", one(10_001, 0, 0, 0)),
+            ("refuse-5-and-14-two-sided", with_targets(0, 10_001, weak)),
+            ("refuse-5-and-15", with_targets(10_001, 0, TWO)),
+            ("refuse-5-and-15-descend", with_targets(0, 10_001, DOWN)),
+            ("refuse-5-and-16", one(10_001, 20_000, 500, 0)),
+            ("refuse-5-and-6", late(one(10_001, 0, 500, 0))),
+            (
+                "refuse-5-to-6-two-sided",
+                late(with_targets(10_001, 0, weak)),
+            ),
+            ("refuse-5-to-6-one-sided", late(one(-10_001, 1, 2_001, 1))),
+            ("refuse-14-and-15", with_targets(0, -1, weak)),
+            (
+                "refuse-14-and-15-descend",
+                with_targets(0, 1, Question { sense: 0, ..weak }),
+            ),
+            ("refuse-14-and-16", one(0, 1, 0, 0)),
+            ("refuse-14-and-16-strengths", one(0, 0, 2_001, 2_001)),
+            ("refuse-14-and-16-far", one(0, 20_000, 0, -1)),
+            ("refuse-14-and-6", late(one(0, 0, 0, 0))),
+            ("refuse-14-and-6-limit", long(one(0, 0, 2_001, 0))),
+            ("refuse-14-and-6-two-sided", late(weak)),
+            ("refuse-14-to-6-two-sided", long(with_targets(0, -1, weak))),
+            ("refuse-14-to-6-one-sided", long(one(0, 1, 0, 1))),
+            ("refuse-15-and-6", late(with_targets(0, -1, TWO))),
+            ("refuse-15-and-6-descend", long(with_targets(0, 1, DOWN))),
+            ("refuse-16-and-6", late(one(0, 20_000, 500, 0))),
+            ("refuse-16-and-6-limit", long(one(0, 0, 500, 2_001))),
+            ("refuse-6-delay-and-limit", late(long(BASE))),
+        ],
+    )
+}
+
+fn refusal_groups() -> Vec<Group> {
     vec![
         Group::new(
             "refusal_1",
@@ -1101,20 +1267,45 @@ fn refusal_groups() -> Vec<Group> {
             "refusal 4, each end of each field",
             outside(BASE, &[8, 9]),
         ),
-        Group::new(
-            "refusal_5",
-            "refusal 5: each end of each field, upper fields of a one-sided question, an upper strength and an upper target behind",
-            five,
-        ),
-        Group::new(
-            "refusal_6",
-            "refusal 6: each end of each field, limits around 65,535, a two-sided delay",
-            six,
-        ),
-        Group::new(
-            "several_refusals",
-            "several refusals at once: the lowest number",
-            several,
-        ),
+        targets_group(),
+        strengths_group(),
+        behind_group(),
+        given_group(),
+        times_group(),
+        several_group(),
     ]
+}
+
+#[cfg(test)]
+mod tests {
+    use super::*;
+
+    /// The refusal that a question's name or its group's gives, 0 where it is to be judged.
+    fn named(group: &str, case: &str) -> u8 {
+        let number = |name: &str| name.parse().ok();
+        match case.split('-').collect::<Vec<_>>()[..] {
+            ["accept", ..] => 0,
+            ["refuse", first, ..] if group == "several_refusals" => number(first).unwrap(),
+            _ => number(group.trim_start_matches("refusal_")).unwrap(),
+        }
+    }
+
+    #[test]
+    fn refusals_are_those_of_the_names() {
+        for group in refusal_groups() {
+            for case in &group.cases {
+                let found = match case.answer() {
+                    Answer::Refused(number) => number,
+                    _ => 0,
+                };
+                assert_eq!(
+                    found,
+                    named(group.name, &case.name),
+                    "{}: {}",
+                    group.name,
+                    case.name
+                );
+            }
+        }
+    }
 }

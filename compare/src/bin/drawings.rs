@@ -250,13 +250,37 @@ fn edge_files() -> Vec<File> {
         ),
         file(
             "refused",
-            "refusals 1 to 6, several at once, each with seconds up to 600 and above",
+            "refusals 1 to 6 and 14 to 16, several at once, each with seconds up to 600 and above",
             vec![
                 at(Question { vi: 10_001, ..M10 }, 5, 18),
                 at(Question { k: 0, ..M10 }, 5, 18),
                 at(Question { e: 2_001, ..M10 }, 5, 18),
                 at(Question { sense: 2, ..M10 }, 5, 18),
+                at(
+                    Question {
+                        target: 10_001,
+                        ..M10
+                    },
+                    5,
+                    18,
+                ),
                 at(Question { strength: 0, ..M10 }, 5, 18),
+                at(
+                    Question {
+                        upper_target: 1_499,
+                        ..two(M10)
+                    },
+                    5,
+                    18,
+                ),
+                at(
+                    Question {
+                        upper_target: 20_000,
+                        ..M10
+                    },
+                    5,
+                    18,
+                ),
                 at(Question { delay: 61, ..M10 }, 5, 18),
                 at(Question { delay: -1, ..M10 }, 5, 18),
                 at(
@@ -280,6 +304,16 @@ fn edge_files() -> Vec<File> {
                         sides: 3,
                         delay: 61,
                         ..M10
+                    },
+                    5,
+                    18,
+                ),
+                at(
+                    Question {
+                        upper_target: 1_499,
+                        upper_strength: 482,
+                        delay: 61,
+                        ..two(M10)
                     },
                     5,
                     18,

@@ -58,12 +58,15 @@ fn upper_searched(q: &Question) -> bool {
 type Class = (&'static str, fn(&Question, &Answer) -> bool);
 
 /// What must be among the generated cases.
-const CLASSES: [Class; 15] = [
+const CLASSES: [Class; 18] = [
     ("refusal 1", |_, a| *a == Answer::Refused(1)),
     ("refusal 2", |_, a| *a == Answer::Refused(2)),
     ("refusal 3", |_, a| *a == Answer::Refused(3)),
     ("refusal 4", |_, a| *a == Answer::Refused(4)),
     ("refusal 5", |_, a| *a == Answer::Refused(5)),
+    ("refusal 14", |_, a| *a == Answer::Refused(14)),
+    ("refusal 15", |_, a| *a == Answer::Refused(15)),
+    ("refusal 16", |_, a| *a == Answer::Refused(16)),
     ("refusal 6", |_, a| *a == Answer::Refused(6)),
     ("clear, lower side", |_, a| *a == Answer::Clear(1)),
     ("clear, upper side", |_, a| *a == Answer::Clear(2)),
@@ -178,6 +181,23 @@ fn planted_file() -> File {
         r: 12_000_001,
         ..BASE
     };
+    let weak = Question {
+        upper_strength: 499,
+        ..TWO
+    };
+    let behind = Question {
+        upper_target: -1,
+        ..TWO
+    };
+    let weak_and_behind = Question {
+        upper_target: -1,
+        ..weak
+    };
+    let given = Question {
+        upper_target: 20_000,
+        ..BASE
+    };
+    let given_and_late = Question { delay: 61, ..given };
     let time = |seconds, remainder, divisor| Time {
         seconds,
         remainder,
@@ -198,6 +218,11 @@ fn planted_file() -> File {
         ("both sides clear", clear, Answer::Clear(3)),
         ("another refusal", refused, Answer::Refused(2)),
         ("a clear for a refusal", refused, Answer::Clear(1)),
+        ("5 for 14", weak, Answer::Refused(5)),
+        ("15 for 14", weak_and_behind, Answer::Refused(15)),
+        ("5 for 15", behind, Answer::Refused(5)),
+        ("5 for 16", given, Answer::Refused(5)),
+        ("6 for 16", given_and_late, Answer::Refused(6)),
         ("one conflict for two", conflicts, Answer::Conflict(lower)),
         ("the two exchanged", conflicts, both(upper, lower)),
         ("lower seconds", conflicts, both(time(18, 1, 7), upper)),
@@ -210,7 +235,7 @@ fn planted_file() -> File {
     cases.push(("right", refused, judge(&refused)));
     File {
         name: "planted".into(),
-        about: "wrong answers: a clear for a conflict and for a refusal, a conflict for a clear, other sides, another refusal, one conflict for two, each number of two times"
+        about: "wrong answers: a clear for a conflict and for a refusal, a conflict for a clear, other sides, another refusal, 5, 15 or 6 for 14, 15 or 16, one conflict for two, each number of two times"
             .into(),
         cases: cases
             .into_iter()

@@ -93,15 +93,18 @@ fn write_record_refusal(number: u8) {
         2 => write(b"the puck's radius or half height is outside its limits"),
         3 => write(b"the delay acceleration is outside its limits"),
         4 => write(b"the sides are not 1 or 2, or the sense is not 0 or 1"),
-        5 => write(
-            b"a target or a strength is outside its limits, or the upper ones don't fit the question",
-        ),
+        5 => write(b"the target or, two-sided, the upper target is outside its limits"),
         6 => write(
             b"the delay or the limit is outside its limits, or the question is two-sided with a delay",
         ),
         7 => write(b"no encounter was accepted before the question"),
         8 => write(b"the code is not one of 1 to 18"),
         9 => write(b"codes 17 and 18 have a name and are not judged"),
+        14 => write(
+            b"a strength is outside its limits, or the upper strength is below the strength",
+        ),
+        15 => write(b"the upper target falls short of the target in the sense"),
+        16 => write(b"the question is one-sided and an upper field is not 0"),
         _ => {}
     }
 }
