@@ -80,8 +80,8 @@ module _ (s : SensedQuestion) (l : List Stretch) (obeys : Obeys s l) (m : ℕ) (
       }
 
   -- ---- from then on
-  pub choice : (n : ℕ) → d s * m ≤ n → n < duration l * m → (pos (a s) ≤ℤ force n) ⊎ (((q s *ℤ pos m) ≤ℤ speed n) × ((q s *ℤ pos m) ≤ℤ (speed n +ℤ force n)))
-  choice n i j =
+  pub strong-or-fast : (n : ℕ) → d s * m ≤ n → n < duration l * m → (pos (a s) ≤ℤ force n) ⊎ (((q s *ℤ pos m) ≤ℤ speed n) × ((q s *ℤ pos m) ≤ℤ (speed n +ℤ force n)))
+  strong-or-fast n i j =
       let N = natAbs (force n) in
       let K = suc N in
       let o = obeys (n * K + N) (m * K) (mul-pos pm (omega arith)) (omega (arith, mul-le-mul-right K j)) .advised (omega (arith, mul-le-mul-right K i)) in
@@ -134,7 +134,7 @@ module _ (s : SensedQuestion) (l : List Stretch) (obeys : Obeys s l) (m : ℕ) (
         above = rw (next, height-step (u s) l n m j) (≤ℤ-trans (≤ℤ-of-≡ gain) (reached-height (a s) m (lost i) (lost (suc i)) (q s) (speed n) (force n) (h .keeps) (reached .0) (reached .1)
             (start +ℤ gained i) (height n) (missing-falls (a s) i m (q s) (u-d s)) (h .above)));
       })
-      (choice n (omega arith) j)
+      (strong-or-fast n (omega arith) j)
 
   late : (i : ℕ) → d s * m + i ≤ duration l * m → Late i
   late zero j = late-start (omega arith)

@@ -16,16 +16,16 @@ use Rattle.flight.specs.Flight.{duration, accelerationAt, speedAt}
 use Rattle.flight.specs.Obeying.{Obeys}
 use Rattle.flight.specs.inner.BySeconds.{SecondObeys}
 use Rattle.flight.proofs.Steps.{acceleration-between, speed-between, speed-step}
-use Rattle.flight.proofs.AboveLower.{choice}
+use Rattle.flight.proofs.AboveLower.{strong-or-fast}
 
 -- i/m lies in the whole second n, j of m parts on
-pub record Within (i m : ℕ) : Type 0 where
+pub record InSecond (i m : ℕ) : Type 0 where
   pub n : ℕ
   pub j : ℕ
   pub less : j < m
   pub is : n * m + j ≡ i
 
-pub second-of : (i m : ℕ) → 1 ≤ m → Within i m
+pub second-of : (i m : ℕ) → 1 ≤ m → InSecond i m
 second-of i m p = record { n = i / m; j = i % m; less = mod-lt i p; is = div-add-mod' i m }
 
 -- the speed is at least q between two instants where it is
@@ -42,11 +42,11 @@ module _ (s : SensedQuestion) (l : List Stretch) where
     advised = λ i. ⊎-elim (λ strong. inl strong)
         (λ (r : ((q s *ℤ pos 1) ≤ℤ speedAt (u s) l n 1) × ((q s *ℤ pos 1) ≤ℤ (speedAt (u s) l n 1 +ℤ accelerationAt l n 1))).
         inr (times-one (q s) _ (r .0), times-one (q s) _ (subst (λ (z : ℤ). (q s *ℤ pos 1) ≤ℤ z) (sym (speed-step (u s) l n 1 (omega arith))) (r .1))))
-        (choice s l o 1 (omega arith) n (omega arith) (omega arith));
+        (strong-or-fast s l o 1 (omega arith) n (omega arith) (omega arith));
   }
 
   -- the whole second n, in which i/m lies, is one of the flight's
-  module _ (i m : ℕ) (w : Within i m) where
+  module _ (i m : ℕ) (w : InSecond i m) where
     same-acceleration : w .n < duration l → accelerationAt l i m ≡ accelerationAt l (w .n) 1
     same-acceleration h =
         ap (λ (z : ℕ). accelerationAt l z m) (sym (w .is)) ∙ ap (λ (z : ℕ). accelerationAt l (w .n * m + w .j) z) {x = m} {y = 1 * m} (omega arith)

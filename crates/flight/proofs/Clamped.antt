@@ -10,16 +10,21 @@ use Rattle.integers.specs.Extremes.{minℤ}
 use Rattle.integers.proofs.Difference.{cond-by}
 use Rattle.integers.proofs.Quotation.{quote}
 use Rattle.integers.proofs.Certificates.{by≤, by<, gap≤, _⊞_, _⊠_, 0≤pos, pos≤}
-use Rattle.integers.proofs.Laws.{≤ℤ-trans, natAbs-hi, natAbs-lo, maxℤ-right, minℤ-left}
+use Rattle.integers.proofs.Laws.{≤ℤ-trans, natAbs-hi, natAbs-lo, natAbs-in, maxℤ-left, maxℤ-right, minℤ-left, minℤ-right}
 use Rattle.flight.specs.Flight.{stretchHeight}
 use Rattle.flight.specs.declared.Part.{Part}
-use Rattle.flight.specs.inner.Parts.{ReachesAt}
+use Rattle.flight.specs.inner.Parts.{ReachesAt, Proper}
 use Rattle.flight.specs.inner.Tests.{reaches}
 use Rattle.flight.specs.inner.Clamped.{clamped}
-use Rattle.flight.proofs.Reach.{Reached, Proper, reached-exactly}
+use Rattle.flight.proofs.Reach.{Reached, reached-exactly}
 use Rattle.flight.proofs.Crossing.{part-inside}
 use Rattle.flight.proofs.InsideTests.{reaches-decided}
 use Rattle.flight.proofs.Decides.{same-decision}
+
+-- it is brought into that range
+pub clamped-size : (L : ℕ) (A : ℤ) → natAbs (clamped L A) ≤ L
+clamped-size L A = natAbs-in (clamped L A) L (maxℤ-left (negℤ (pos L)) (minℤ A (pos L)))
+    (cond-by (leZ (negℤ (pos L)) (minℤ A (pos L))) (minℤ A (pos L)) (negℤ (pos L)) (λ z. z ≤ℤ pos L) (λ t. minℤ-right A (pos L)) (λ t. by≤ (L ∷ []) [] (0≤pos 0) (λ w. search quote depth 20) tt))
 
 module _ (L : ℕ) (A v g : ℤ) (large : 2 * natAbs v + natAbs g < L) (part : Part) (proper : Proper part) where
   module _ (j K : ℕ) (pK : 1 ≤ K) (l : j ≤ K) where

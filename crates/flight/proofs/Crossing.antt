@@ -14,9 +14,9 @@ use Rattle.integers.proofs.Laws.{split≤, natAbs-hi, natAbs-lo}
 use Rattle.grid.proofs.Neighbours.{neighbours}
 use Rattle.flight.specs.Flight.{stretchHeight}
 use Rattle.flight.specs.declared.Part.{Part}
-use Rattle.flight.specs.inner.Parts.{InPart, Crosses}
+use Rattle.flight.specs.inner.Parts.{InPart, Crosses, Proper}
 use Rattle.flight.specs.declared.Part.the-variants.{Nowhere, FromTo, From}
-use Rattle.flight.proofs.Reach.{Reached, Proper, reached-exactly}
+use Rattle.flight.proofs.Reach.{Reached, reached-exactly}
 
 pub record Crossed (A B v g : ℤ) (part : Part) : Type 0 where
   pub j : ℕ

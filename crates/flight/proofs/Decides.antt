@@ -1,5 +1,5 @@
 -- A test decides a statement: it is true exactly if the statement holds. A record, so that the statement fixes the test. Assumes nothing.
-use mathlib.Core.Path.{_≡_}
+use mathlib.Core.Path.{_≡_, refl, sym, subst}
 use mathlib.Core.Bool.{Bool, true, false, not, cond, _&&_, _||_}
 use mathlib.Core.Logic.{_⊎_, inl, inr, ⊎-elim, _↔_}
 use Prim.Native.Nat.{ℕ, _≤_}
@@ -46,3 +46,20 @@ decides-not {a} f never = same-test a false (λ t. never (f .yes t)) (λ t. absu
 pub test-by : {A : Type 0} (b : Bool) (x y : A) (X : A → Type 0) → (T b → X x) → (T (not b) → X y) → X (cond b x y)
 test-by true x y X f g = f tt
 test-by false x y X f g = g tt
+
+-- ---- both of two tests
+pub both-hold : {a b : Bool} → a ≡ true → b ≡ true → (a && b) ≡ true
+both-hold {a = true} e f = f
+both-hold {a = false} e f = e
+
+pub second-fails : (a : Bool) {b : Bool} → b ≡ false → (a && b) ≡ false
+second-fails true e = e
+second-fails false e = refl
+
+pub first-holds : (a b : Bool) → (a && b) ≡ true → a ≡ true
+first-holds true b e = refl
+first-holds false b e = e
+
+pub second-holds : (a b : Bool) → (a && b) ≡ true → b ≡ true
+second-holds true b e = e
+second-holds false b e = absurd (subst T {x = true} {y = false} (sym e) tt)

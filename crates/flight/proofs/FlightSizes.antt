@@ -1,6 +1,6 @@
 -- How large a flight's speed and height can be at a whole second: after n seconds the speed has changed by at most B × n, B being the largest acceleration. Within
 -- the limits these are `mostFlightSpeed` and `mostFlightHeight`. Assumes nothing.
-use mathlib.Core.Path.{_≡_, sym, subst}
+use mathlib.Core.Path.{sym, subst}
 use mathlib.Core.Bool.{_&&_}
 use mathlib.Core.List.{List, [], _∷_}
 use mathlib.Core.Logic.{⊎-elim}
@@ -11,13 +11,11 @@ use lib.Dec.{T, leb, leb→le}
 use lib.Ieee.Fits.{and-l, and-r}
 use lib.IntN.{ℤ, pos, negℤ, _+ℤ_, _*ℤ_, natAbs}
 use lib.ListN.{length, getD}
-use lib.Signed.{_≤ℤ_}
-use Rattle.limits.specs.Limits.{maxStretches, maxFlightAcceleration, flightAccelerationWithin, minStretchSeconds, maxFlightSeconds, stretchSecondsWithin}
+use Rattle.limits.specs.Limits.{maxFlightAcceleration, flightAccelerationWithin, minStretchSeconds, maxFlightSeconds, stretchSecondsWithin}
 use Rattle.integers.proofs.Quotation.{quote}
 use Rattle.integers.proofs.Certificates.{by≤, gap≤, _⊞_, _⊠_, 0≤pos, nat≤}
 use Rattle.integers.proofs.Laws.{split≤, natAbs-hi, natAbs-lo, natAbs-in}
 use Rattle.advisory.specs.declared.Sense.{Sense}
-use Rattle.advisory.specs.Sign.{sensed}
 use Rattle.path.specs.inner.Sizes.{maxSpeedDifference}
 use Rattle.question.proofs.WithinLimits.{between}
 use Rattle.flight.specs.declared.Stretch.{Stretch}

@@ -16,3 +16,5 @@ pub mod PlainNumbers
 pub mod WindowSeconds
 pub mod Walk
 pub mod FlightSizes
+pub mod FlightExamples
+pub mod HandedIn

@@ -5,22 +5,22 @@ use mathlib.Core.List.{List, [], _∷_}
 use mathlib.Core.Logic.{⊎-elim, _↔_}
 use Prim.Native.Nat.{ℕ, zero, suc, _+_, _*_, _-_, _<_, _≤_}
 use native.Mathlib.Omega.{arith}
-use lib.IntN.{ℤ, pos, negsuc, negℤ, _+ℤ_, _-ℤ_, _*ℤ_, natAbs}
+use lib.IntN.{ℤ, pos, negsuc, negℤ, _-ℤ_, _*ℤ_, natAbs}
 use lib.Signed.{_≤ℤ_}
 use Rattle.integers.proofs.Quotation.{quote}
 use Rattle.integers.proofs.Certificates.{ring, modulo, by≤, gap≤}
-use Rattle.integers.proofs.Laws.{≤ℤ-of-≡, split≤}
+use Rattle.integers.proofs.Laws.{split≤}
 use Rattle.advisory.specs.declared.Sense.{Sense}
 use Rattle.advisory.specs.declared.Sense.the-variants.{Climb, Descend}
 use Rattle.advisory.specs.Sign.{sign, sensed}
-use Rattle.path.specs.Letters.{u, q, wh}
+use Rattle.path.specs.Letters.{u, q}
 use Rattle.question.specs.declared.Encounter.{Encounter}
 use Rattle.question.specs.declared.Settings.{Settings}
 use Rattle.question.specs.declared.Question.{Question}
 use Rattle.question.specs.Refusals.{senseOf}
 use Rattle.sensed.specs.Sensed.{sensedQuestion}
 use Rattle.flight.specs.declared.Stretch.{Stretch}
-use Rattle.flight.specs.Flight.{duration, accelerationAt, stretchSpeed, stretchHeight, speedAfter, speedAt, heightAt}
+use Rattle.flight.specs.Flight.{duration, accelerationAt, speedAfter, speedAt, heightAt}
 use Rattle.flight.specs.SensedFlight.{sensedStretch, sensedFlight}
 use Rattle.flight.specs.Inside.{heightApart}
 use Rattle.flight.specs.PlainNumbers.{SpeedReached, intruderAbove}
@@ -93,10 +93,11 @@ module _ (x : Encounter) (y : Settings) (z : Question) (l : List Stretch) (n m :
   unfolding sensedQuestion
   speed-in-plain-numbers =
       let w = senseOf z in
-      let e = sensed-speed w (x .«intruder_speed») (x .speed) l n m in
-      (λ h. by≤ (m ∷ []) (sign (senseOf z) ∷ z .target ∷ x .«intruder_speed» ∷ speedAt (x .speed) l n m ∷ []) (gap≤ (subst (λ (t : ℤ). (sensed w (z .target -ℤ x .«intruder_speed») *ℤ pos m) ≤ℤ t) e h)) (λ v. search quote depth 20) tt,
-       λ h. subst (λ (t : ℤ). (sensed w (z .target -ℤ x .«intruder_speed») *ℤ pos m) ≤ℤ t) (sym e)
-           (by≤ (m ∷ []) (sign (senseOf z) ∷ z .target ∷ x .«intruder_speed» ∷ speedAt (x .speed) l n m ∷ []) (gap≤ h) (λ v. search quote depth 20) tt))
+      let e = sensed-speed w (x .«intruder_speed») (x .speed) l n m in (
+        λ h. by≤ (m ∷ []) (sign (senseOf z) ∷ z .target ∷ x .«intruder_speed» ∷ speedAt (x .speed) l n m ∷ []) (gap≤ (subst (λ (t : ℤ). (sensed w (z .target -ℤ x .«intruder_speed») *ℤ pos m) ≤ℤ t) e h)) (λ v. search quote depth 20) tt,
+        λ h. subst (λ (t : ℤ). (sensed w (z .target -ℤ x .«intruder_speed») *ℤ pos m) ≤ℤ t) (sym e)
+            (by≤ (m ∷ []) (sign (senseOf z) ∷ z .target ∷ x .«intruder_speed» ∷ speedAt (x .speed) l n m ∷ []) (gap≤ h) (λ v. search quote depth 20) tt),
+      )
 
   pub height-in-plain-numbers : natAbs (heightApart (sensedQuestion x y z) (sensedFlight (senseOf z) l) n m) ≡ natAbs (intruderAbove (x .height) (x .«intruder_speed») (x .speed) l n m)
   unfolding sensedQuestion

@@ -11,7 +11,7 @@ use Rattle.integers.proofs.Quotation.{quote}
 use Rattle.integers.proofs.Certificates.{by≤, by<, div≤, gap≤, gap<, _⊞_, _⊠_, 0≤pos, 0≤square, pos≤, pos<, nat≤, nat<, split<}
 use Rattle.integers.proofs.Laws.{≤ℤ-of-≡, <ℤ-≤ℤ, natAbs-hi, natAbs-lo}
 use Rattle.flight.specs.declared.Part.{Part}
-use Rattle.flight.specs.inner.Parts.{InPart, Tops, ReachesAt, Reaches}
+use Rattle.flight.specs.inner.Parts.{InPart, Proper, Tops, ReachesAt, Reaches}
 use Rattle.flight.specs.declared.Part.the-variants.{Nowhere, FromTo, From}
 
 -- a rational time of the part at which the quadratic is at least A
@@ -21,12 +21,6 @@ pub record Reached (A v g : ℤ) (part : Part) : Type 0 where
   pub divisor : 1 ≤ K
   pub during : InPart part j K
   pub high : ReachesAt A v g j K
-
--- a part of a second: its ends lie in it, in order
-abbrev pub Proper : Part → Type 0
-Proper Nowhere = Unit {0}
-Proper (FromTo x z y) = (x ≤ z) × (z < y)
-Proper (From x y) = x < y
 
 -- ---- from a time j/K of the part to an end or the top
 module _ (A v g : ℤ) (j K : ℕ) (pK : 1 ≤ K) (high : ReachesAt A v g j K) where

@@ -3,7 +3,6 @@
 -- clear (`proofs/FlightExamples.antt`). Assumes nothing.
 use mathlib.Core.List.{List, [], _∷_}
 use Prim.Native.Nat.{ℕ, _*_}
-use lib.IntN.{pos, _-ℤ_, _*ℤ_}
 use Rattle.integers.proofs.Quotation.{quote}
 use Rattle.integers.proofs.Certificates.{by≤, gap≤, _⊠_, 0≤pos}
 use Rattle.integers.proofs.Laws.{≤ℤ-trans, natAbs-lo}

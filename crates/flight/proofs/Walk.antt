@@ -1,6 +1,6 @@
 -- What a program's walk over a flight needs, second by second: the speed and the height at the next whole second; what is known of both answers after n
 -- seconds, and after the next. Assumes nothing.
-use mathlib.Core.Path.{_≡_, refl, sym, ap, _∙_, subst}
+use mathlib.Core.Path.{_≡_, refl, ap, _∙_, subst}
 use mathlib.Core.Bool.{Bool, true, false, cond, _&&_}
 use mathlib.Core.List.{List, [], _∷_}
 use Prim.Native.Nat.{ℕ, zero, suc, _+_, _*_, _-_, _<_, _≤_}
@@ -11,19 +11,18 @@ use Rattle.integers.proofs.Quotation.{quote}
 use Rattle.integers.proofs.Certificates.{ring}
 use Rattle.integers.proofs.Branches.{picks-yes, picks-no}
 use Rattle.path.specs.declared.SensedQuestion.{SensedQuestion}
-use Rattle.path.specs.Letters.{c, p, k, u, d}
+use Rattle.path.specs.Letters.{c, p, k, u, q, a, d, e}
 use Rattle.path.specs.Window.{distanceAt}
 use Rattle.flight.specs.declared.Stretch.{Stretch}
 use Rattle.flight.specs.declared.Part.{Part}
-use Rattle.flight.specs.declared.PuckEntry.{PuckEntry}
 use Rattle.flight.specs.declared.PuckEntry.the-variants.{Never, During}
 use Rattle.flight.specs.Flight.{duration, accelerationAt, speedAt, heightAt}
 use Rattle.flight.specs.Inside.{InsideDuring}
 use Rattle.flight.specs.inner.Parts.{nearPart, bandFrom, bandTo}
-use Rattle.flight.specs.inner.Tests.{secondObeys, firstObey, obeysTest, reaches, crosses, insideAt, insideSecond, insideFrom, firstInside}
+use Rattle.flight.specs.inner.Tests.{obeysDelayed, obeysAdvice, secondObeys, firstObey, obeysTest, reaches, crosses, insideAt, insideSecond, insideFrom, firstInside}
 use Rattle.flight.specs.inner.Clamped.{clamped}
 use Rattle.flight.proofs.Steps.{speed-start, height-start, speed-step, height-step}
-use Rattle.flight.proofs.Decides.{nat-decides, decided-yes, decides-not}
+use Rattle.flight.proofs.Decides.{nat-decides, decided-yes, decides-not, both-hold, second-fails}
 use Rattle.flight.proofs.PlainNumbers.{negated-size}
 use Rattle.flight.proofs.InsideTests.{second-inside}
 use Rattle.flight.proofs.NearParts.{near-part}
@@ -45,13 +44,19 @@ module _ (v : ℤ) (l : List Stretch) where
 
 -- ---- obeying: n seconds do
 module _ (s : SensedQuestion) (l : List Stretch) where
+  -- one second's test in the numbers that a walk has: the next speed is v + g
+  pub obeys-here : (n : ℕ) → n < duration l
+      → secondObeys s l n ≡ cond (ltb n (d s)) (obeysDelayed (e s) (accelerationAt l n 1)) (obeysAdvice (a s) (q s) (accelerationAt l n 1) (speedAt (u s) l n 1) (speedAt (u s) l n 1 +ℤ accelerationAt l n 1))
+  unfolding secondObeys
+  obeys-here n h = ap (λ (z : ℤ). cond (ltb n (d s)) (obeysDelayed (e s) (accelerationAt l n 1)) (obeysAdvice (a s) (q s) (accelerationAt l n 1) (speedAt (u s) l n 1) z)) (next-speed (u s) l n h)
+
   pub none-disobeys : firstObey s l 0 ≡ true
   unfolding firstObey
   none-disobeys = refl
 
   pub obeys-on : (n : ℕ) → firstObey s l n ≡ true → secondObeys s l n ≡ true → firstObey s l (suc n) ≡ true
   unfolding firstObey
-  obeys-on n h e = rw (h, e) refl
+  obeys-on n h e = both-hold h e
 
   pub all-obey : firstObey s l (duration l) ≡ true → obeysTest s l ≡ true
   unfolding obeysTest
@@ -59,11 +64,7 @@ module _ (s : SensedQuestion) (l : List Stretch) where
 
   still-disobeys : (n f : ℕ) → secondObeys s l n ≡ false → firstObey s l (suc n + f) ≡ false
   unfolding firstObey
-  still-disobeys n zero e = subst (λ (i : ℕ). firstObey s l i ≡ false) {x = suc n} {y = suc n + 0} (omega arith) (both-false (firstObey s l n) (secondObeys s l n) e)
-    where
-      both-false : (a b : Bool) → b ≡ false → (a && b) ≡ false
-      both-false true b e = e
-      both-false false b e = refl
+  still-disobeys n zero e = subst (λ (i : ℕ). firstObey s l i ≡ false) {x = suc n} {y = suc n + 0} (omega arith) (second-fails (firstObey s l n) e)
   still-disobeys n (suc f) e = subst (λ (i : ℕ). firstObey s l i ≡ false) {x = suc (suc n + f)} {y = suc n + suc f} (omega arith) (ap (λ (b : Bool). b && secondObeys s l (suc n + f)) (still-disobeys n f e))
 
   pub disobeys : (n : ℕ) → n < duration l → secondObeys s l n ≡ false → obeysTest s l ≡ false
@@ -118,7 +119,7 @@ module _ (s : SensedQuestion) (l : List Stretch) where
     outside-until zero h out = all-left
     outside-until (suc n) h out = left-on n (omega arith) (outside-until n (omega arith) (λ j (i : j < n). out j (omega arith))) (second-outside n (omega arith) (out n (omega arith)))
 
--- ---- one second's tests in the numbers that a walk has
+-- ---- one second's test in the numbers that a walk has
 module _ (s : SensedQuestion) (l : List Stretch) (n : ℕ) where
   abbrev part : Part
   part = nearPart (c s) (p s) (distanceAt s n 1)

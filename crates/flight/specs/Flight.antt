@@ -1,6 +1,6 @@
--- A candidate's flight: "a flight from speed v: 1 to 64 stretches, each a whole upward acceleration .. and .. whole seconds" (document 02, "Judging a
--- candidate's flight"). A time is n/m seconds. "Each comparison at it is multiplied through by its divisors": a speed at n/m stands times m, a height
--- times 2 × m², which are whole. v is the speed at the start; the height there is 0.
+-- A candidate's flight (document 02, "Judging a candidate's flight"): "Candidates answer with a flight from speed v: 1 to 64 stretches, each a whole upward
+-- acceleration from −2,000 to 2,000 and 1 to 600 whole seconds, at most 600 in total." v is the speed at the start; the height there is 0. A time is n/m
+-- seconds, and "each comparison at it is multiplied through by its divisors" (document 01): a speed at n/m stands times m, a height times 2 × m².
 use mathlib.Core.Bool.{cond}
 use mathlib.Core.List.{List, [], _∷_}
 use Prim.Native.Nat.{ℕ, _+_, _*_, _-_}

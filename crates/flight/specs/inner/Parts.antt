@@ -24,6 +24,17 @@ InPart Nowhere j K = ⊥
 InPart (FromTo x z y) j K = (x * K ≤ j * y) × (j * y ≤ z * K)
 InPart (From x y) j K = (x * K ≤ j * y) × (j < K)
 
+-- what is so of each part that occurs: its ends are in order and below 1; and y is at most B
+abbrev pub Proper : Part → Type 0
+Proper Nowhere = Unit {0}
+Proper (FromTo x z y) = (x ≤ z) × (z < y)
+Proper (From x y) = x < y
+
+abbrev pub DivisorWithin : ℕ → Part → Type 0
+DivisorWithin B Nowhere = Unit {0}
+DivisorWithin B (FromTo x z y) = y ≤ B
+DivisorWithin B (From x y) = y ≤ B
+
 -- where |R − c × τ| ≤ p, R being the distance at the second's first instant: from (R − p)/c to (R + p)/c
 abbrev pub partUpTo : ℕ → ℕ → ℤ → Part
 partUpTo c x (negsuc z) = Nowhere

@@ -5,10 +5,10 @@ use mathlib.Core.Bool.{Bool, true, false, cond, _&&_, _||_}
 use mathlib.Core.List.{List}
 use Prim.Native.Nat.{ℕ, zero, suc, _*_}
 use lib.Dec.{leb, ltb}
-use lib.IntN.{ℤ, pos, negℤ, _+ℤ_, _-ℤ_, _*ℤ_, natAbs}
+use lib.IntN.{ℤ, pos, negℤ, _+ℤ_, _*ℤ_, natAbs}
 use lib.Signed.{leZ, ltZ}
 use Rattle.path.specs.declared.SensedQuestion.{SensedQuestion}
-use Rattle.path.specs.Letters.{c, p, k, wh, u, q, a, d, e}
+use Rattle.path.specs.Letters.{c, p, k, u, q, a, d, e}
 use Rattle.path.specs.Window.{distanceAt}
 use Rattle.flight.specs.declared.Stretch.{Stretch}
 use Rattle.flight.specs.declared.Part.{Part}
