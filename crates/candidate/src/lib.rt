@@ -30,7 +30,7 @@ pub enum FlightAnswer {
 }
 
 // The advice as a question: one-sided, with no upper fields.
-fn asked(advice: OneSidedAdvice) -> Question
+pub fn asked(advice: OneSidedAdvice) -> Question
     ensures { λ r. ⌜ r ≡ asked advice ⌝ }
 {
     Question {

@@ -5,3 +5,4 @@ pub mod Exported
 pub mod MarkedAnswers
 pub mod ScreenRight
 pub mod ScreenExported
+pub mod FlightsRight

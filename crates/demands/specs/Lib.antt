@@ -6,3 +6,4 @@ pub mod Program
 pub mod Marked
 pub mod Screen
 pub mod Unchanged
+pub mod Flights

@@ -24,20 +24,20 @@ use Rattle.flight.specs.inner.Tests.{obeysTest, firstInside}
 use Rattle.flight.proofs.ObeyingTests.{obeys-decided}
 use Rattle.flight.proofs.InsideTests.{right-entry}
 
-abbrev asked : ℤ → ℤ → Question
+abbrev pub asked : ℤ → ℤ → Question
 asked target delay = record { sides = pos 1; sense = pos 1; target = target; «upper_target» = pos 0; strength = pos 500; «upper_strength» = pos 0; delay = delay; limit = noLimit }
 
-abbrev stretch : ℤ → ℕ → Stretch
+abbrev pub stretch : ℤ → ℕ → Stretch
 stretch g t = record { acceleration = g; seconds = t }
 
 -- ---- M5
-abbrev m5Encounter : Encounter
+abbrev pub m5Encounter : Encounter
 m5Encounter = meet (pos 0) (negℤ (pos 7000)) (pos 10000) (negℤ (pos 1000))
 
-abbrev m5 : SensedQuestion
+abbrev pub m5 : SensedQuestion
 m5 = sensedQuestion m5Encounter startingSettings (asked (pos 0) (pos 0))
 
-abbrev inM5 : List Stretch → List Stretch
+abbrev pub inM5 : List Stretch → List Stretch
 inM5 = sensedFlight (senseOf (asked (pos 0) (pos 0)))
 
 pub m5-conflict : SaysConflict (verdict (asked (pos 0) (pos 0)) m5)
@@ -45,7 +45,7 @@ unfolding verdict timeShown sensedQuestion
 m5-conflict = tt
 
 -- the lower path itself: at 2 it is k above the intruder, which is the edge
-abbrev just : List Stretch
+abbrev pub just : List Stretch
 just = stretch (pos 500) 2 ∷ stretch (pos 0) 5 ∷ []
 
 pub m5-inside : Obeys m5 (inM5 just) × RightEntry m5 (inM5 just) (During 2)
@@ -53,7 +53,7 @@ unfolding sensedQuestion obeysTest firstInside
 m5-inside = (obeys-decided m5 (inM5 just) .yes tt, right-entry m5 (inM5 just) (omega arith))
 
 -- quicker than asked
-abbrev quick : List Stretch
+abbrev pub quick : List Stretch
 quick = stretch (pos 2000) 1 ∷ stretch (pos 0) 6 ∷ []
 
 pub m5-outside : Obeys m5 (inM5 quick) × RightEntry m5 (inM5 quick) Never

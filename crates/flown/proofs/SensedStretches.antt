@@ -21,10 +21,6 @@ sensed-at w [] i = ap (λ (g : ℤ). record { acceleration = g; seconds = 0 }) {
 sensed-at w (x ∷ l) zero = refl
 sensed-at w (x ∷ l) (suc i) = sensed-at w l i
 
-pub sensed-count : (w : Sense) (l : List Stretch) → length (sensedFlight w l) ≡ length l
-sensed-count w [] = refl
-sensed-count w (x ∷ l) = ap suc (sensed-count w l)
-
 -- ---- the flight up to a stretch
 pub duration-on : (l : List Stretch) (i : ℕ) → duration (take (suc i) l) ≡ duration (take i l) + getD l i noStretch .seconds
 duration-on [] zero = omega arith

@@ -23,6 +23,7 @@ use Rattle.flight.specs.Flight.{duration}
 use Rattle.flight.specs.FlightLimits.{stretchesWithin, countWithin, flightWithin}
 use Rattle.flight.specs.HandedIn.{flightOf, paired, numbersWithin}
 use Rattle.flight.specs.SensedFlight.{sensedFlight}
+use Rattle.flight.proofs.HandedIn.{sensed-count}
 use Rattle.flight.proofs.PlainNumbers.{sensed-size, sensed-duration}
 use Rattle.flight.proofs.FlightSizes.{Accelerates, sensed-accelerates, one-stretch, each-within, flown-within, within-accelerates}
 use Rattle.stretches.specs.inner.NoStretch.{noStretch}
@@ -31,7 +32,7 @@ use Rattle.second.specs.declared.Motion.{Motion}
 use Rattle.second.specs.inner.SecondSizes.{MotionSizes}
 use Rattle.flown.specs.declared.Place.{Place}
 use Rattle.flown.specs.inner.Places.{PlaceAt}
-use Rattle.flown.proofs.SensedStretches.{sensed-at, sensed-count}
+use Rattle.flown.proofs.SensedStretches.{sensed-at}
 use Rattle.flown.proofs.Seconds.{motion-sizes}
 use Rattle.flown.proofs.NextPlace.{so-far}
 

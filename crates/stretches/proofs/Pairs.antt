@@ -1,59 +1,44 @@
--- The numbers of a flight and its stretches: how many, and which number is a stretch's. Assumes nothing.
-use mathlib.Core.Path.{_≡_, refl, ap, _∙_}
+-- The numbers of a flight and its stretches: how many there are, and what stands past the last. Assumes nothing.
+use mathlib.Core.Path.{_≡_, refl, sym, subst}
 use mathlib.Core.Bool.{Bool, true, false}
 use mathlib.Core.List.{List, [], _∷_}
-use Prim.Native.Nat.{ℕ, zero, suc, _+_, _*_, _/_, _%_, _<_, _≤_}
+use Prim.Native.Nat.{ℕ, zero, suc, _*_, _/_, _%_, _≤_}
 use native.Mathlib.Nat.{div-add-mod, mod-lt}
 use native.Mathlib.Omega.{arith}
-use lib.IntN.{ℤ, pos}
+use lib.Dec.{T}
+use lib.IntN.{ℤ}
 use lib.ListN.{length, getD}
-use Rattle.integers.specs.Extremes.{max0}
 use Rattle.flight.specs.declared.Stretch.{Stretch}
 use Rattle.flight.specs.HandedIn.{flightOf, paired}
+use Rattle.flight.proofs.HandedIn.{count-handed, count-odd}
 
--- two numbers a stretch, and one more where they are not pairs
-abbrev left-over : Bool → ℕ
-left-over true = 0
-left-over false = 1
+-- half as many stretches as numbers; the numbers are pairs exactly if none is left over
+record Halved (l : List ℤ) (b : Bool) : Type 0 where
+  stretches : length (flightOf l) ≡ length l / 2
+  even : length l % 2 ≡ 0 → b ≡ true
+  odd : ¬ (length l % 2 ≡ 0) → b ≡ false
 
-numbers : (l : List ℤ) → length l ≡ 2 * length (flightOf l) + left-over (paired l)
-numbers [] = omega arith
-numbers (g ∷ []) = omega arith
-numbers (g ∷ t ∷ l) = omega (arith, numbers l)
-
-odd : (b : Bool) → left-over b ≡ 0 → b ≡ true
-odd true e = refl
-odd false e = absurd (omega arith)
-
-even : (b : Bool) → ¬ (left-over b ≡ 0) → b ≡ false
-even true e = absurd (e refl)
-even false e = refl
-
-at-most-one : (b : Bool) → left-over b < 2
-at-most-one true = omega arith
-at-most-one false = omega arith
+halved : (l : List ℤ) (b : Bool) → paired l ≡ b → Halved l b
+halved l true e =
+    let n = count-handed l (subst T (sym e) tt) in
+    let half = div-add-mod (length l) 2 in
+    let small = mod-lt (length l) {m = 2} (omega arith) in
+    record { stretches = omega arith; even = λ h. refl; odd = λ h. absurd (h (omega arith)) }
+halved l false e =
+    let n = count-odd l e in
+    let half = div-add-mod (length l) 2 in
+    let small = mod-lt (length l) {m = 2} (omega arith) in
+    record { stretches = omega arith; even = λ (h : length l % 2 ≡ 0). absurd (omega arith); odd = λ h. refl }
 
 module _ (l : List ℤ) where
   pub count : length (flightOf l) ≡ length l / 2
-  count = omega (arith, numbers l, at-most-one (paired l), div-add-mod (length l) 2, mod-lt (length l) {m = 2} (omega arith))
-
-  odd-one : left-over (paired l) ≡ length l % 2
-  odd-one = omega (arith, numbers l, at-most-one (paired l), div-add-mod (length l) 2, mod-lt (length l) {m = 2} (omega arith))
+  count = halved l (paired l) refl .stretches
 
   pub are-pairs : length l % 2 ≡ 0 → paired l ≡ true
-  are-pairs e = odd (paired l) (odd-one ∙ e)
+  are-pairs = halved l (paired l) refl .even
 
   pub no-pairs : ¬ (length l % 2 ≡ 0) → paired l ≡ false
-  no-pairs e = even (paired l) (λ h. e (omega (arith, odd-one)))
-
--- the i-th stretch's numbers
-pub stretch-numbers : (l : List ℤ) (i : ℕ) (z : Stretch) → i < length (flightOf l) → getD (flightOf l) i z ≡ record { acceleration = getD l (2 * i) (pos 0); seconds = max0 (getD l (suc (2 * i)) (pos 0)) }
-stretch-numbers [] i z h = absurd (omega arith)
-stretch-numbers (g ∷ []) i z h = absurd (omega arith)
-stretch-numbers (g ∷ t ∷ l) zero z h = refl
-stretch-numbers (g ∷ t ∷ l) (suc i) z h =
-    stretch-numbers l i z (omega arith)
-    ∙ ap (λ (n : ℕ). record { acceleration = getD (g ∷ t ∷ l) n (pos 0); seconds = max0 (getD (g ∷ t ∷ l) (suc n) (pos 0)) }) {x = suc (suc (2 * i))} {y = 2 * suc i} (omega arith)
+  no-pairs = halved l (paired l) refl .odd
 
 pub past-the-last : (l : List Stretch) (i : ℕ) (z : Stretch) → length l ≤ i → getD l i z ≡ z
 past-the-last [] i z h = refl

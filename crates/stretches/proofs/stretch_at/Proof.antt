@@ -11,8 +11,9 @@ use mir.Facts.{toZ-ofZ}
 use Rattle.integers.specs.Extremes.{max0}
 use Rattle.flight.specs.declared.Stretch.{Stretch}
 use Rattle.flight.specs.HandedIn.{flightOf}
+use Rattle.flight.proofs.HandedIn.{stretch-handed}
 use Rattle.stretches.specs.inner.NoStretch.{noStretch}
-use Rattle.stretches.proofs.Pairs.{count, stretch-numbers, past-the-last}
+use Rattle.stretches.proofs.Pairs.{count, past-the-last}
 use Rattle.stretches.proofs.stretch_at.Statement.{statement}
 use Rattle.stretches.proofs.stretch_at.Tie as tie
 
@@ -56,7 +57,7 @@ returns-2 c =
     same-stretch
     (toZ-ofZ {w = w64} {z = getD l (2 * z .i) (pos 0)} (record { sfits = g .acceleration .given }))
     (c .positive-part .ensures ∙ ap max0 (toZ-ofZ {w = w64} {z = getD l (2 * z .i + 1) (pos 0)} (record { sfits = t .seconds .given })) ∙ ap (λ (n : ℕ). max0 (getD l n (pos 0))) {x = 2 * z .i + 1} {y = suc (2 * z .i)} (omega arith))
-    ∙ sym (stretch-numbers l (z .i) noStretch (omega (arith, count l, g .before .if1 .left)))
+    ∙ sym (stretch-handed l (z .i) noStretch (omega (arith, count l, g .before .if1 .left)))
 
 pub stretch-at-spec : {M : Type 1} → statement M
 stretch-at-spec =
