@@ -216,11 +216,16 @@ fn rim() -> Group {
             obeys(Some(600)),
         ),
         case(r(30_001 + 600 * 19_940, 19_940), &[0, 600], obeys(None)),
+        case(
+            r(30_000 + 599 * 19_940, 19_940),
+            &[0, 600],
+            obeys(Some(599)),
+        ),
         case(r(30_000 + 600 * 19_940, 19_940), &[0, 599], obeys(None)),
     ];
     Group {
         name: "rim",
-        about: "flights that end on the puck's rim or just before, c = 0 with r at p and one beyond, second 600; and turned over",
+        about: "flights that end on the puck's rim or just before, c = 0 with r at p and one beyond, seconds 599 and 600; and turned over",
         cases: both_senses(cases),
     }
 }
