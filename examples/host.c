@@ -1,4 +1,4 @@
-/* A host in C: judges questions of plain numbers and flights, draws a path, and answers sheets. `compare/hosts` builds and runs it; by hand, from the repository's root:
+/* A host in C: judges questions of plain numbers, draws one, judges flights, and answers sheets. `compare/hosts` builds and runs it; by hand, from the repository's root:
  *     rt staticlib binding
  *     cc -Iinclude -o host examples/host.c target/staticlib/libbinding.a && ./host examples/whole_example.sheet
  */
@@ -55,12 +55,11 @@ static void point(uint64_t second)
     printf("point: refusal %" PRIu64 ", time %.0f, height %.0f\n", answer.refusal, answer.time, answer.height);
 }
 
-/* Flights for the advice to climb to 0 with 500, from a descent of 1,000 and 7,000 above the intruder (M5, a conflict at 2 s). */
-static void fly(const char *name, const int64_t *flight, size_t count)
+/* M5, climb to 0 at 500: a candidate's flight against it. */
+static void fly(const char *name, const int64_t *flight, size_t length)
 {
-    FlightResult answer = judge_flight(0, -7000, 10000, -1000, 0, 30000, 6000, 966, LIFGORUND_CLIMB, 0, 500, 0, LIFGORUND_NO_LIMIT, flight, count);
-    printf("%s: refusal %" PRIu64 ", obeys %" PRIu64 ", inside %" PRIu64 ", second %" PRIu64 "\n", name, answer.refusal, answer.obeys, answer.inside,
-           answer.second);
+    FlightResult answer = judge_flight(0, -7000, 10000, -1000, 0, 30000, 6000, 966, LIFGORUND_CLIMB, 0, 500, 0, LIFGORUND_NO_LIMIT, flight, length);
+    printf("%s: refusal %" PRIu64 ", obeys %" PRIu64 ", inside %" PRIu64 ", second %" PRIu64 "\n", name, answer.refusal, answer.obeys, answer.inside, answer.second);
 }
 
 static void answer(const char *name, const uint8_t *sheet, size_t length, size_t room)
@@ -89,12 +88,11 @@ int main(int argc, char **argv)
     draw();
     point(15);
     point(LIFGORUND_LAST_SECOND + 1);
-    const int64_t path[] = {500, 2, 0, 10};
-    const int64_t strong[] = {2000, 1, 0, 9};
-    const int64_t weak[] = {499, 2, 0, 10};
-    fly("the path itself", path, 4);
-    fly("a stronger climb", strong, 4);
-    fly("a weaker climb", weak, 4);
+    const int64_t just[] = {500, 2, 0, 5};
+    const int64_t quick[] = {2000, 1, 0, 6};
+    fly("M5, 500 for 2 s", just, 4);
+    fly("M5, 2,000 for 1 s", quick, 4);
+    fly("three numbers", just, 3);
     fly("no flight", NULL, 0);
     answer("whole example", sheet, length, LIFGORUND_AMPLE_AREA);
     answer("cut short", sheet, length - 1, LIFGORUND_AMPLE_AREA);

@@ -1,4 +1,4 @@
-"""A host in Python: judges questions of plain numbers and flights, draws a path, and answers sheets. `compare/hosts` builds the shared library and runs it; by hand, from
+"""A host in Python: judges questions of plain numbers, draws one, judges flights, and answers sheets. `compare/hosts` builds the shared library and runs it; by hand, from
 the repository's root:
     rt staticlib binding
     cc -shared -o liblifgorund.so -Wl,--whole-archive target/staticlib/libbinding.a -Wl,--no-whole-archive
@@ -85,8 +85,8 @@ def point(second):
     print(f"point: refusal {answer.refusal}, time {answer.time:.0f}, height {answer.height:.0f}")
 
 
-def fly(name, *flight):
-    """A flight for the advice to climb to 0 with 500, from a descent of 1,000 and 7,000 above the intruder (M5, a conflict at 2 s)."""
+def fly(name, flight):
+    """M5, climb to 0 at 500: a candidate's flight against it."""
     numbers = (ctypes.c_int64 * len(flight))(*flight)
     answer = library.judge_flight(0, -7000, 10000, -1000, 0, 30000, 6000, 966, CLIMB, 0, 500, 0, NO_LIMIT, numbers, len(flight))
     print(f"{name}: refusal {answer.refusal}, obeys {answer.obeys}, inside {answer.inside}, second {answer.second}")
@@ -108,10 +108,10 @@ show("strength 0", climb(32250, 0))
 draw()
 point(15)
 point(LAST_SECOND + 1)
-fly("the path itself", 500, 2, 0, 10)
-fly("a stronger climb", 2000, 1, 0, 9)
-fly("a weaker climb", 499, 2, 0, 10)
-fly("no flight")
+fly("M5, 500 for 2 s", [500, 2, 0, 5])
+fly("M5, 2,000 for 1 s", [2000, 1, 0, 6])
+fly("three numbers", [500, 2, 0])
+fly("no flight", [])
 answer("whole example", sheet, AMPLE_AREA)
 answer("cut short", sheet[:-1], AMPLE_AREA)
 answer("area of 12 bytes", sheet, 12)

@@ -52,8 +52,8 @@ enum {
     LIFGORUND_NO_LIMIT = 65535
 };
 
-/* Refusals. 1 to 9 and 14 to 16 concern one record, 10 to 13 a whole sheet, 18 a flight. The functions of plain numbers give the first that
- * holds of 1, 2, 3, 4, 5, 14, 15, 16, 6, in this order; judge_flight of 1, 2, 3, 4, 5, 14, 6, 18. */
+/* Refusals. 1 to 9 and 14 to 16 concern one record, 10 to 13 a whole sheet. The functions of plain numbers give the first that holds of
+ * 1, 2, 3, 4, 5, 14, 15, 16, 6, in this order. */
 enum {
     LIFGORUND_ACCEPTED = 0,
     LIFGORUND_BAD_ENCOUNTER = 1,          /* a field of the encounter is outside its limits */
@@ -72,7 +72,7 @@ enum {
     LIFGORUND_BAD_STRENGTH = 14,          /* strength outside limits; two-sided also the upper strength, or one below the strength */
     LIFGORUND_UPPER_TARGET_SHORT = 15,    /* two-sided: the upper target falls short of the target in the sense */
     LIFGORUND_UPPER_FIELD_GIVEN = 16,     /* one-sided: an upper field is not 0 */
-    LIFGORUND_BAD_FLIGHT = 18             /* a flight outside its sizes */
+    LIFGORUND_BAD_FLIGHT = 18             /* no stretch or more than 64, numbers that are not pairs, a stretch outside its limits, a total above 600 */
 };
 
 /* Lengths in bytes: of the longest sheet, and of an area that is long enough for the answer to any sheet. */
@@ -166,29 +166,21 @@ PointResult screen_point(
     int64_t r, int64_t h, int64_t c, int64_t v, int64_t vi, int64_t p, int64_t k, int64_t e, int64_t sides, int64_t sense,
     int64_t target, int64_t upper_target, int64_t strength, int64_t upper_strength, int64_t delay, int64_t limit, uint64_t second);
 
-/* The sizes of a flight: stretches, the size of an acceleration in grains/s^2, and seconds, of a stretch and of all together. */
-enum {
-    LIFGORUND_MOST_STRETCHES = 64,
-    LIFGORUND_MOST_ACCELERATION = 2000,
-    LIFGORUND_MOST_SECONDS = 600
-};
-
-/* What judge_flight answers. Of a refused flight all but the refusal is 0. */
+/* What judge_flight answers. What is not used is 0. */
 typedef struct FlightResult {
-    uint64_t refusal; /* LIFGORUND_ACCEPTED, or why nothing is said of the flight */
+    uint64_t refusal; /* LIFGORUND_ACCEPTED, or one of 1, 2, 3, 4, 5, 14, 6, 18 */
     uint64_t obeys;   /* 1 if the flight obeys the advice, else 0 */
-    uint64_t inside;  /* 1 if it is inside the puck at some time up to its end, whatever the limit, else 0 */
-    uint64_t second;  /* the first such second: it has a time inside at that second or later, but before the next; 0 if inside is 0 */
+    uint64_t inside;  /* 1 if it is inside the puck, edge included, at a time up to its end, limit or not; else 0 */
+    uint64_t second;  /* where it is inside: the least whole second n with such a time at n or later but before n + 1 */
 } FlightResult;
 
-/* Judges a candidate's flight against a one-sided advice. The numbers before the flight are those of judge_plain, with no sides and no upper fields.
- * The flight is 1 to LIFGORUND_MOST_STRETCHES pairs of numbers: an upward acceleration from -LIFGORUND_MOST_ACCELERATION to
- * LIFGORUND_MOST_ACCELERATION, and the whole seconds for which it is kept, 1 or more, at most LIFGORUND_MOST_SECONDS in total; count is twice the
- * number of pairs. Where the verdict of judge_plain is clear, no flight that obeys is inside up to the limit. Every number may have any value, and
- * count too, as long as the flight is valid for it; a pointer whose count is 0 is not followed. It writes no memory. */
+/* Judges a candidate's flight against a one-sided advice. The flight is numbers in pairs, each a stretch: an upward acceleration in grains/s^2, -2,000 to
+ * 2,000, and whole seconds, 1 to 600; 1 to 64 stretches, at most 600 seconds in total. It starts with the ownship's speed v. flight_length counts the numbers, and
+ * is twice the number of stretches. Every argument may have any value, and any numbers may stand in the flight, which is only read, during the call alone:
+ * it must be valid for its length, and nothing else may write to it during the call. A pointer whose length is 0 is not followed, and may be null. */
 FlightResult judge_flight(
-    int64_t r, int64_t h, int64_t c, int64_t v, int64_t vi, int64_t p, int64_t k, int64_t e, int64_t sense, int64_t target, int64_t strength,
-    int64_t delay, int64_t limit, const int64_t *flight, size_t count);
+    int64_t r, int64_t h, int64_t c, int64_t v, int64_t vi, int64_t p, int64_t k, int64_t e, int64_t sense, int64_t target, int64_t strength, int64_t delay,
+    int64_t limit, const int64_t *flight, size_t flight_length);
 
 /* What answer_sheet_bytes answers. */
 typedef struct SheetResult {

@@ -125,11 +125,10 @@ module _ (x : Encounter) (y : Settings) (z : Question) (e : refusal x y z ≡ Ch
   upper-limits two =
       let l = within-limits in
       let target = targetWithin (z .«upper_target») in
-      let strength = strengthWithin (z .«upper_strength») in
-      (
+      let strength = strengthWithin (z .«upper_strength») in (
         between (negℤ (pos maxSpeed)) (pos maxSpeed) (z .«upper_target») (asked-where (twoSided z) target (and-r (targetWithin (z .target)) (not (twoSided z) || target) (l .targets)) two),
         between (pos minStrength) (pos maxStrength) (z .«upper_strength») (
-          and-l strength (strengthsOrdered z) (asked-where (twoSided z) (strength && strengthsOrdered z) (and-r (strengthWithin (z .strength)) (not (twoSided z) || (strength && strengthsOrdered z)) (l .strengths)) two)),
+            and-l strength (strengthsOrdered z) (asked-where (twoSided z) (strength && strengthsOrdered z) (and-r (strengthWithin (z .strength)) (not (twoSided z) || (strength && strengthsOrdered z)) (l .strengths)) two)),
       )
 
   -- the upper fields, within their limits or 0

@@ -1,2 +1,3 @@
 pub mod SensedOrder
 pub mod TestedInOrder
+pub mod WhereTwoSided

@@ -1,8 +1,9 @@
 // Refusals 1 to 6 and 14 to 16: what a question must meet besides the fields' limits, and the tests in their order. The conditions are `question`'s specs/Refusals.antt.
 ghost use mathlib.Core.Path.{_≡_};
+ghost use mathlib.Core.Bool.{_&&_};
 ghost use lib.Signed.{leZ};
-ghost use Rattle.limits.specs.Limits.{delayWithin};
-ghost use Rattle.question.specs.Refusals.{targetsWithin, strengthsWithin, targetsOrdered, upperTargetInSense, upperUnused, noDelay, limitAllowed, timesWithin, questionChecks, firstRefusal, refusal};
+ghost use Rattle.limits.specs.Limits.{strengthWithin, delayWithin};
+ghost use Rattle.question.specs.Refusals.{targetsWithin, strengthsOrdered, strengthsWithin, targetsOrdered, upperTargetInSense, upperZero, upperUnused, noDelay, limitAllowed, timesWithin, questionChecks, firstRefusal, refusal};
 use advisory::Sense;
 use limits::MAX_DELAY;
 use limits::MAX_LIMIT;
@@ -31,14 +32,31 @@ fn targets_within(question: Question) -> bool
             | ((MIN_SPEED <= question.upper_target) & (question.upper_target <= MAX_SPEED)))
 }
 
+fn strength_within(question: Question) -> bool
+    ensures { λ r. ⌜ r ≡ strengthWithin (question .strength) ⌝ }
+{
+    (MIN_STRENGTH <= question.strength) & (question.strength <= MAX_STRENGTH)
+}
+
+// The upper strength is within its limits, and no lower than the strength.
+fn upper_strength_within(question: Question) -> bool
+    ensures { λ r. ⌜ r ≡ (strengthWithin (question .«upper_strength») && strengthsOrdered question) ⌝ }
+{
+    ((MIN_STRENGTH <= question.upper_strength) & (question.upper_strength <= MAX_STRENGTH))
+        & (question.strength <= question.upper_strength)
+}
+
 // Refusal 14.
 fn strengths_within(question: Question) -> bool
     ensures { λ r. ⌜ r ≡ strengthsWithin question ⌝ }
 {
-    ((MIN_STRENGTH <= question.strength) & (question.strength <= MAX_STRENGTH))
-        & (!((2 <= question.sides) & (question.sides <= 2))
-            | (((MIN_STRENGTH <= question.upper_strength) & (question.upper_strength <= MAX_STRENGTH))
-                & (question.strength <= question.upper_strength)))
+    if !strength_within(question) {
+        return false;
+    }
+    if two_sided(question) {
+        return upper_strength_within(question);
+    }
+    true
 }
 
 fn target_at_most_upper(question: Question) -> bool
@@ -67,16 +85,27 @@ fn targets_ordered(question: Question) -> bool
 fn upper_target_in_sense(question: Question) -> bool
     ensures { λ r. ⌜ r ≡ upperTargetInSense question ⌝ }
 {
-    !two_sided(question) | targets_ordered(question)
+    if two_sided(question) {
+        return targets_ordered(question);
+    }
+    true
+}
+
+fn upper_zero(question: Question) -> bool
+    ensures { λ r. ⌜ r ≡ upperZero question ⌝ }
+{
+    ((0 <= question.upper_target) & (question.upper_target <= 0))
+        & ((0 <= question.upper_strength) & (question.upper_strength <= 0))
 }
 
 // Refusal 16.
 fn upper_unused(question: Question) -> bool
     ensures { λ r. ⌜ r ≡ upperUnused question ⌝ }
 {
-    ((2 <= question.sides) & (question.sides <= 2))
-        | (((0 <= question.upper_target) & (question.upper_target <= 0))
-            & ((0 <= question.upper_strength) & (question.upper_strength <= 0)))
+    if two_sided(question) {
+        return true;
+    }
+    upper_zero(question)
 }
 
 fn delay_within(question: Question) -> bool

@@ -1,15 +1,14 @@
 -- The part of a second in which the intruder is near, by the code's cases. Assumes nothing.
 use mathlib.Core.Path.{_≡_, refl, sym, ap, _∙_}
+use mathlib.Core.Bool.{cond}
 use Prim.Native.Nat.{ℕ, zero, suc, _<_, _≤_}
 use native.Mathlib.Omega.{arith}
 use borrow.Author.Tests.{lt-ltb, le-ltb, le-leb, lt-leb}
-use lib.Dec.{ltb→lt, leb, ltb}
-use mathlib.Core.Bool.{cond}
+use lib.Dec.{leb, ltb, ltb→lt}
 use lib.IntN.{ℤ, pos, negsuc, _+ℤ_, _-ℤ_, natAbs}
 use lib.Signed.{_≤ℤ_, _<ℤ_}
 use Rattle.integers.specs.Extremes.{max0}
 use Rattle.integers.proofs.Branches.{picks-yes, picks-no}
-use Rattle.flight.specs.declared.Part.{Part}
 use Rattle.flight.specs.declared.Part.the-variants.{Nowhere, FromTo, From}
 use Rattle.flight.specs.inner.Parts.{partUpTo, nearPart}
 

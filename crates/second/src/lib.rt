@@ -1,15 +1,16 @@
 // A whole second of a flight, from n to n + 1: whether it obeys, and whether it is inside the puck. Exact 64-bit code for the tests of `flight`.
 //
-// Locals bear the letters of `flight` (specs/inner/Parts.antt): within the second the height gained is the quadratic v·τ + g·τ²/2, and all heights here are
-// twice the height. x/y and z/y are ends of a part of the second.
+// Locals bear document 01's letters and those of `flight` (specs/inner/Parts.antt): τ into the second the height has gained v·τ + g·τ²/2. All heights here are
+// twice the height. x/y and z/y are the ends of a part of the second.
 
 ghost use mathlib.Core.Path.{_≡_};
 ghost use Prim.Native.Nat.{_≤_};
 ghost use lib.IntN.{_+ℤ_};
 ghost use Rattle.limits.specs.Limits.{maxClosingSpeed, maxFlightSeconds};
+ghost use Rattle.path.specs.declared.Side.the-variants.{Lower};
 ghost use Rattle.path.specs.Letters.{c, p, q, a};
 ghost use Rattle.path.specs.Window.{distanceAt};
-ghost use Rattle.path.specs.inner.Sizes.{Sizes};
+ghost use Rattle.path.specs.inner.Sizes.{Sizes, InReach};
 ghost use Rattle.flight.specs.declared.Part.the-variants.{FromTo, From};
 ghost use Rattle.flight.specs.inner.Parts.{Proper, DivisorWithin, partUpTo, nearPart};
 ghost use Rattle.flight.specs.inner.Tests.{obeysAdvice, reachesAt, tops, reaches};
@@ -114,25 +115,27 @@ fn near_part(s: SensedQuestion, n: u64) -> Part
     part_up_to(c, x, ahead + p)
 }
 
-// More than twice the height can change within a second: 2·|v| + |g| is below it.
-const MOST_GAINED: i64 = 2 * (2 * MAX_SPEED + MAX_FLIGHT_ACCELERATION * (MAX_FLIGHT_SECONDS as i64)) + MAX_FLIGHT_ACCELERATION + 1;
+// A flight's speed at most, and more than twice the height that a second can gain or lose: 2·|v| + |g| is below it.
+const MOST_SPEED: i64 = 2 * MAX_SPEED + MAX_FLIGHT_ACCELERATION * (MAX_FLIGHT_SECONDS as i64);
+
+const MOST_GAINED: i64 = 2 * MOST_SPEED + MAX_FLIGHT_ACCELERATION + 1;
 
 const MOST_LOST: i64 = -MOST_GAINED;
 
-// A height to reach within the second, brought into the range that can be reached: a·y² would not fit 64 bits for an a as it comes.
-fn clamp(a: i64) -> i64
-    ensures { λ r. ⌜ r ≡ clamped mostGained a ⌝ }
+// An edge's height, measured from the height at n, brought into the range that can be reached: as it comes, times y², it would not fit 64 bits.
+fn clamp(edge: i64) -> i64
+    ensures { λ r. ⌜ r ≡ clamped mostGained edge ⌝ }
 {
-    if MOST_GAINED < a {
+    if MOST_GAINED < edge {
         return MOST_GAINED;
     }
-    if a < MOST_LOST {
+    if edge < MOST_LOST {
         return MOST_LOST;
     }
-    a
+    edge
 }
 
-// A height to reach within the second, measured from the height at n, and the quadratic that is to reach it, 2·v·τ + g·τ².
+// An edge to reach within the second, measured from the height at n, and the quadratic that is to reach it, 2·v·τ + g·τ².
 struct Approach {
     edge: i64,
     speed: i64,
@@ -142,31 +145,29 @@ struct Approach {
 // Is it reached at x/y?
 fn reaches_at(to: Approach, x: u64, y: u64) -> bool
     requires { ⌜ ApproachSizes to ⌝ }
-    requires { ⌜ x ≤ maxClosingSpeed ⌝ }
-    requires { ⌜ y ≤ maxClosingSpeed ⌝ }
+    requires { ⌜ InReach Lower x y ⌝ }
     ensures { λ r. ⌜ r ≡ reachesAt (to .edge) (to .speed) (to .acceleration) x y ⌝ }
 {
-    let a = to.edge;
+    let edge = to.edge;
     let v = to.speed;
     let g = to.acceleration;
     let x = x as i64;
     let y = y as i64;
-    a * y * y <= 2 * v * x * y + g * x * x
+    edge * y * y <= 2 * v * x * y + g * x * x
 }
 
 // Is there a top, x/y or later, that reaches it?
 fn tops(to: Approach, x: u64, y: u64) -> bool
     requires { ⌜ ApproachSizes to ⌝ }
-    requires { ⌜ x ≤ maxClosingSpeed ⌝ }
-    requires { ⌜ y ≤ maxClosingSpeed ⌝ }
+    requires { ⌜ InReach Lower x y ⌝ }
     ensures { λ r. ⌜ r ≡ tops (to .edge) (to .speed) (to .acceleration) x y ⌝ }
 {
-    let a = to.edge;
+    let edge = to.edge;
     let v = to.speed;
     let g = to.acceleration;
     let x = x as i64;
     let y = y as i64;
-    (g < 0) & ((0 <= v * y + g * x) & (0 <= v * v + g * a))
+    (g < 0) & ((0 <= v * y + g * x) & (0 <= v * v + g * edge))
 }
 
 // From x/y to z/y: at an end, or at a top between them.
@@ -195,10 +196,10 @@ fn reaches_from(to: Approach, x: u64, y: u64) -> bool
 {
     let first = reaches_at(to, x, y);
     let top = tops(to, x, y);
-    let a = to.edge;
+    let edge = to.edge;
     let v = to.speed;
     let g = to.acceleration;
-    first | ((a < 2 * v + g) | (top & (v + g < 0)))
+    first | ((edge < 2 * v + g) | (top & (v + g < 0)))
 }
 
 fn reaches(to: Approach, part: Part) -> bool

@@ -1,7 +1,8 @@
--- `refusals::upper_target_in_sense` meets its contract: each part is a call's.
-use mathlib.Core.Path.{ap₂}
-use mathlib.Core.Bool.{Bool, not, _||_}
+-- `refusals::upper_target_in_sense` meets its contract: the order is asked for where the question is two-sided.
+use mathlib.Core.Path.{sym, _∙_}
 use borrow.Author.Needs.{needs}
+use Rattle.question.specs.Refusals.{targetsOrdered}
+use Rattle.refusals.proofs.WhereTwoSided.{asked-if}
 use Rattle.refusals.proofs.upper_target_in_sense.Statement.{statement}
 use Rattle.refusals.proofs.upper_target_in_sense.Tie as tie
 
@@ -12,7 +13,10 @@ targets-ordered-requires : tie.Need-targets-ordered-requires
 targets-ordered-requires c κs = search needs
 
 returns : tie.Need-returns
-returns c = ap₂ (λ (two ordered : Bool). not two || ordered) (c .before .two-sided .ensures) (c .targets-ordered .ensures)
+returns c = let z = c .before .before .before .args .question in c .targets-ordered .ensures ∙ asked-if z (targetsOrdered z) (sym (c .before .before .two-sided .ensures) ∙ c .before .if1 .taken)
+
+returns-2 : tie.Need-returns-2
+returns-2 c = let z = c .before .before .args .question in asked-if z (targetsOrdered z) (sym (c .before .two-sided .ensures) ∙ c .if1 .left)
 
 pub upper-target-in-sense-spec : {M : Type 1} → statement M
-upper-target-in-sense-spec = tie.close (tie.spec two-sided-requires targets-ordered-requires returns)
+upper-target-in-sense-spec = tie.close (tie.spec two-sided-requires targets-ordered-requires returns returns-2)

@@ -9,23 +9,23 @@ use Rattle.second.proofs.Clamping.{clamped-above, clamped-below, clampe
 use Rattle.second.proofs.clamp.Statement.{statement}
 use Rattle.second.proofs.clamp.Tie as tie
 
-not-above : (c : tie.Else1) → c .before .args .a ≤ℤ pos mostGained
-not-above c = let z = c .before in let v = fitting (z .args .a) (z .fits .a) in failed (c .if1 .left) (search machine) tt
+not-above : (c : tie.Else1) → c .before .args .edge ≤ℤ pos mostGained
+not-above c = let z = c .before in let v = fitting (z .args .edge) (z .fits .edge) in failed (c .if1 .left) (search machine) tt
 
 returns : tie.Need-returns
-returns c = let z = c .before in let v = fitting (z .args .a) (z .fits .a) in clamped-above mostGained (z .args .a) (passed (c .if1 .taken) (search machine) tt)
+returns c = let z = c .before in let v = fitting (z .args .edge) (z .fits .edge) in clamped-above mostGained (z .args .edge) (passed (c .if1 .taken) (search machine) tt)
 
 returns-2 : tie.Need-returns-2
 returns-2 c =
     let z = c .before .before in
-    let v = fitting (z .args .a) (z .fits .a) in
-    clamped-below mostGained (z .args .a) (not-above (c .before)) (passed (c .if2 .taken) (search machine) tt)
+    let v = fitting (z .args .edge) (z .fits .edge) in
+    clamped-below mostGained (z .args .edge) (not-above (c .before)) (passed (c .if2 .taken) (search machine) tt)
 
 returns-3 : tie.Need-returns-3
 returns-3 c =
     let z = c .before .before in
-    let v = fitting (z .args .a) (z .fits .a) in
-    toZ-ofZ (z .fits .a) ∙ clamped-within mostGained (z .args .a) (not-above (c .before)) (failed (c .if2 .left) (search machine) tt)
+    let v = fitting (z .args .edge) (z .fits .edge) in
+    toZ-ofZ (z .fits .edge) ∙ clamped-within mostGained (z .args .edge) (not-above (c .before)) (failed (c .if2 .left) (search machine) tt)
 
 pub clamp-spec : {M : Type 1} → statement M
 clamp-spec = tie.close (tie.spec returns returns-2 returns-3)

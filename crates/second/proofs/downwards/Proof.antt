@@ -23,7 +23,7 @@ returns c =
     let motion = y .args .motion in
     let (z, m) = y .pre in
     let edge : toZ w64 (ofZ w64 (toZ w64 (ofZ w64 (motion .height)) -ℤ toZ w64 (ofZ w64 (pos 2 *ℤ toZ w64 (ofZ w64 (toZ w64 (ofZ w64 (wh s)) +ℤ toZ w64 (k s))))))) ≡ motion .height -ℤ pos 2 *ℤ (wh s +ℤ pos (k s))
-            = result (search second-terms depth 20) tt in
+    = result (search second-terms depth 20) tt in
     let turned : motion .height -ℤ pos 2 *ℤ (wh s +ℤ pos (k s)) ≡ negℤ (edgeAbove s motion) = ring (k s ∷ []) (wh s ∷ motion .height ∷ []) (λ v. search quote depth 20) tt in
     same-approach
     (toZ-ofZ (sfits-of (c .clamp .ok)) ∙ c .clamp .ensures ∙ ap (λ (t : ℤ). clamped mostGained t) (edge ∙ turned))

@@ -1,5 +1,5 @@
 -- `second::near_part` meets its contract: each number fits, and its branches are the definition's cases. Assumes nothing.
-use mathlib.Core.Path.{_≡_, ap, ap₂, _∙_, subst}
+use mathlib.Core.Path.{_≡_, ap₂, _∙_, subst}
 use Prim.Native.Nat.{ℕ, _≤_, _<_}
 use native.Mathlib.Omega.{arith}
 use borrow.Author.Needs.{needs}
@@ -48,12 +48,6 @@ returns-2 k =
     still-far (p (s x)) (R x) (c (s x)) (y .before .if1 .taken) (subst (λ (i : ℕ). p (s x) < i) (apart y) (k .if2 .left))
 
 -- c above 0
-sub-positive-part : tie.Need-sub-positive-part
-sub-positive-part k = let x = k .before in let z = x .before .pre .0 in let v = ahead x in fits (search second-terms depth 20) tt
-
-add-part-up-to : tie.Need-add-part-up-to
-add-part-up-to k = let x = k .before .before in let z = x .before .pre .0 in let v = ahead x in fits (search second-terms depth 20) tt
-
 from : (k : tie.After-positive-part) → k .positive-part .result ≡ max0 (R (k .before .before) -ℤ pos (p (s (k .before .before))))
 from k = let x = k .before .before in let z = x .before .pre .0 in let v = ahead x in plain-call (k .positive-part .ensures) (search second-terms depth 20) tt
 
@@ -77,8 +71,8 @@ near-part-spec =
     returns
     returns-2
     (λ k. search needs)
-    sub-positive-part
+    (λ k. let x = k .before in let z = x .before .pre .0 in let v = ahead x in fits (search second-terms depth 20) tt)
     (λ k κs. search needs)
-    add-part-up-to
+    (λ k. let x = k .before .before in let z = x .before .pre .0 in let v = ahead x in fits (search second-terms depth 20) tt)
     (λ k κs. search needs)
     returns-3)

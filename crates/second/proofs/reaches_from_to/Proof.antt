@@ -1,11 +1,9 @@
 -- `second::reaches_from_to` meets its contract: each product fits, and the joined tests are the definition's. Assumes nothing.
 use native.Mathlib.Omega.{arith}
 use borrow.Author.Needs.{needs}
-use mir.Syntax.{w64}
-use mir.Val.{toZ}
-use Rattle.limits.specs.Limits.{maxClosingSpeed}
-use Rattle.integers.proofs.Machine.{Reading, bounded-word, fits, plain}
-use Rattle.second.specs.inner.SecondSizes.{ApproachSizes}
+use Rattle.integers.proofs.Machine.{fits, plain}
+use Rattle.path.specs.declared.Side.the-variants.{Lower}
+use Rattle.path.specs.inner.Sizes.{InReach}
 use Rattle.second.proofs.Fields.{second-terms, known}
 use Rattle.second.proofs.reaches_from_to.Statement.{statement}
 use Rattle.second.proofs.reaches_from_to.Tie as tie
@@ -14,21 +12,14 @@ module _ (c : tie.After-struct-told2) where
   abbrev start : tie.Start
   start = c .before .before .before .before .before
 
-  abbrev sizes : ApproachSizes (start .args .to)
-  sizes = start .pre .0
-
-  abbrev z : Reading (toZ w64 (start .args .z))
-  z = bounded-word (start .args .z) maxClosingSpeed (omega (arith, start .pre .1))
-
-  abbrev y : Reading (toZ w64 (start .args .y))
-  y = bounded-word (start .args .y) maxClosingSpeed (start .pre .1 .1)
+  last-reach : InReach Lower (start .args .z) (start .args .y)
+  last-reach = record { n-hi = omega (arith, start .pre .1); m-lo = omega (arith, start .pre .1); m-hi = start .pre .1 .1 }
 
 returns : tie.Need-returns
 returns c =
     let k = c .before .before in
-    let h = sizes c in
-    let i = z c in
-    let j = y c in
+    let z = start c .pre .0 in
+    let h = last-reach c in
     let first = known (k .before .before .reaches-at .ensures) in
     let last = known (k .before .reaches-at2 .ensures) in
     let top = known (k .tops .ensures) in
@@ -45,7 +36,7 @@ reaches-from-to-spec =
     (λ c. search needs)
     (λ c. search needs)
     -- v × y + g × z
-    (λ c. let h = sizes c in let i = z c in let j = y c in fits (search second-terms depth 20) tt)
-    (λ c. let h = sizes c in let i = z c in let j = y c in fits (search second-terms depth 20) tt)
-    (λ c. let h = sizes c in let i = z c in let j = y c in fits (search second-terms depth 20) tt)
+    (λ c. let z = start c .pre .0 in let h = last-reach c in fits (search second-terms depth 20) tt)
+    (λ c. let z = start c .pre .0 in let h = last-reach c in fits (search second-terms depth 20) tt)
+    (λ c. let z = start c .pre .0 in let h = last-reach c in fits (search second-terms depth 20) tt)
     returns)

@@ -1,26 +1,12 @@
 -- `second::tops` meets its contract: each product fits, and the joined tests are the definition's. Assumes nothing.
 use borrow.Author.Needs.{needs}
-use mir.Syntax.{w64}
-use mir.Val.{toZ}
-use Rattle.limits.specs.Limits.{maxClosingSpeed}
-use Rattle.integers.proofs.Machine.{Reading, bounded-word, fits, plain}
-use Rattle.second.specs.inner.SecondSizes.{ApproachSizes}
+use Rattle.integers.proofs.Machine.{fits, plain}
 use Rattle.second.proofs.Fields.{second-terms}
 use Rattle.second.proofs.tops.Statement.{statement}
 use Rattle.second.proofs.tops.Tie as tie
 
-module _ (c : tie.After-struct-told3) where
-  abbrev sizes : ApproachSizes (c .before .before .before .args .to)
-  sizes = c .before .before .before .pre .0
-
-  abbrev x : Reading (toZ w64 (c .before .before .before .args .x))
-  x = bounded-word (c .before .before .before .args .x) maxClosingSpeed (c .before .before .before .pre .1 .0)
-
-  abbrev y : Reading (toZ w64 (c .before .before .before .args .y))
-  y = bounded-word (c .before .before .before .args .y) maxClosingSpeed (c .before .before .before .pre .1 .1)
-
 returns : tie.Need-returns
-returns c = let z = sizes c in let i = x c in let j = y c in plain (search second-terms depth 20) tt
+returns c = let (z, h) = c .before .before .before .pre in plain (search second-terms depth 20) tt
 
 pub tops-spec : {M : Type 1} → statement M
 tops-spec =
@@ -30,11 +16,11 @@ tops-spec =
     (λ c. search needs)
     (λ c. search needs)
     -- v × y + g × x
-    (λ c. let z = sizes c in let i = x c in let j = y c in fits (search second-terms depth 20) tt)
-    (λ c. let z = sizes c in let i = x c in let j = y c in fits (search second-terms depth 20) tt)
-    (λ c. let z = sizes c in let i = x c in let j = y c in fits (search second-terms depth 20) tt)
-    -- v² + g × a
-    (λ c. let z = sizes c in let i = x c in let j = y c in fits (search second-terms depth 20) tt)
-    (λ c. let z = sizes c in let i = x c in let j = y c in fits (search second-terms depth 20) tt)
-    (λ c. let z = sizes c in let i = x c in let j = y c in fits (search second-terms depth 20) tt)
+    (λ c. let (z, h) = c .before .before .before .pre in fits (search second-terms depth 20) tt)
+    (λ c. let (z, h) = c .before .before .before .pre in fits (search second-terms depth 20) tt)
+    (λ c. let (z, h) = c .before .before .before .pre in fits (search second-terms depth 20) tt)
+    -- v² + g × edge
+    (λ c. let (z, h) = c .before .before .before .pre in fits (search second-terms depth 20) tt)
+    (λ c. let (z, h) = c .before .before .before .pre in fits (search second-terms depth 20) tt)
+    (λ c. let (z, h) = c .before .before .before .pre in fits (search second-terms depth 20) tt)
     returns)

@@ -21,7 +21,7 @@ returns c =
     let motion = y .args .motion in
     let (z, m) = y .pre in
     let edge : toZ w64 (ofZ w64 (toZ w64 (ofZ w64 (pos 2 *ℤ toZ w64 (ofZ w64 (toZ w64 (ofZ w64 (wh s)) -ℤ toZ w64 (k s))))) -ℤ toZ w64 (ofZ w64 (motion .height)))) ≡ edgeBelow s motion
-            = result (search second-terms depth 20) tt in
+    = result (search second-terms depth 20) tt in
     same-approach
     (toZ-ofZ (sfits-of (x .clamp .ok)) ∙ x .clamp .ensures ∙ ap (λ (t : ℤ). clamped mostGained t) edge)
     (result (search second-terms depth 20) tt)
