@@ -102,17 +102,17 @@ const EQUIVALENT: &[Equivalent] = &[
     },
     Equivalent {
         function: "clamp",
-        turned: "if MOST_GAINED <= a {",
+        turned: "if MOST_GAINED <= edge {",
         reason: "the bound is brought to itself",
     },
     Equivalent {
         function: "clamp",
-        turned: "if a <= MOST_LOST {",
+        turned: "if edge <= MOST_LOST {",
         reason: "the bound is brought to itself",
     },
     Equivalent {
         function: "tops",
-        turned: "(g < 0) & ((0 < v * y + g * x) & (0 <= v * v + g * a))",
+        turned: "(g < 0) & ((0 < v * y + g * x) & (0 <= v * v + g * edge))",
         reason: "a top at the part's first instant is tried as that",
     },
     Equivalent {
