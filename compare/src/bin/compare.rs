@@ -6,6 +6,7 @@
 //! sheets the feature `sheets`.
 
 use compare::check::{self, Tally, argument};
+#[cfg(feature = "sheets")]
 use compare::examples;
 use compare::ffi::{self, JudgeResult};
 #[cfg(feature = "flights")]
