@@ -1,3 +1,4 @@
 pub mod PlainNumbers
 pub mod Flat
 pub mod Screen
+pub mod Flight

@@ -4,11 +4,16 @@ ghost use lib.ListN.{length};
 ghost use Rattle.instant.specs.Lowest.{noTime};
 ghost use Rattle.judge.specs.Answers.{answer};
 ghost use Rattle.sheet.specs.WholeSheet.{outcome, areaAfter};
-ghost use Rattle.binding.specs.PlainNumbers.{plainEncounter, plainSettings, plainQuestion};
+ghost use Rattle.candidate.specs.FlightAnswers.{yesNumber, flightAnswer};
+ghost use Rattle.binding.specs.PlainNumbers.{plainEncounter, plainSettings, plainQuestion, plainAdvice};
 ghost use Rattle.screen.specs.Drawings.{content, screenDrawing};
 ghost use Rattle.screen.specs.Points.{screenPoint};
 ghost use Rattle.binding.specs.Flat.{withTimes, flatVerdict, flatAnswer, flatOutcome};
+ghost use Rattle.binding.specs.Flight.{flatEntry, flatFlight};
 ghost use Rattle.binding.specs.Screen.{noPiece, flatPiece, flatContent, flatPoint};
+use candidate::FlightAnswer;
+use candidate::OneSidedAdvice;
+use flight::PuckEntry;
 use instant::Time;
 use judge::Answer;
 use judge::judge;
@@ -394,4 +399,94 @@ pub extern "C" fn screen_point(
         limit,
     );
     flat_point(screen::screen_point(encounter, settings, question, second))
+}
+
+// Of a flight that is flown refusal 0, 1 if it obeys, 1 if it is inside the puck, and the first such second; of a refused one the number. What is not used is 0.
+#[repr(C)]
+pub struct FlightResult {
+    pub refusal: u64,
+    pub obeys: u64,
+    pub inside: u64,
+    pub second: u64,
+}
+
+// 1 for yes, 0 for no.
+fn yes_number(yes: bool) -> u64
+    ensures { λ r. ⌜ r ≡ yesNumber yes ⌝ }
+{
+    if yes {
+        return 1;
+    }
+    0
+}
+
+fn flat_entry(obeys: u64, entry: PuckEntry) -> FlightResult
+    ensures { λ r. ⌜ r ≡ flatEntry obeys entry ⌝ }
+{
+    match entry {
+        PuckEntry::Never => FlightResult {
+            refusal: 0,
+            obeys: obeys,
+            inside: 0,
+            second: 0,
+        },
+        PuckEntry::During(second) => FlightResult {
+            refusal: 0,
+            obeys: obeys,
+            inside: 1,
+            second: second,
+        },
+    }
+}
+
+fn flat_flight(answer: FlightAnswer) -> FlightResult
+    ensures { λ r. ⌜ r ≡ flatFlight answer ⌝ }
+{
+    match answer {
+        FlightAnswer::Refused(number) => FlightResult {
+            refusal: number as u64,
+            obeys: 0,
+            inside: 0,
+            second: 0,
+        },
+        FlightAnswer::Flown(obeys, entry) => flat_entry(yes_number(obeys), entry),
+    }
+}
+
+fn plain_advice(sense: i64, target: i64, strength: i64, delay: i64, limit: i64) -> OneSidedAdvice
+    ensures { λ z. ⌜ z ≡ plainAdvice sense target strength delay limit ⌝ }
+{
+    OneSidedAdvice {
+        sense: sense,
+        target: target,
+        strength: strength,
+        delay: delay,
+        limit: limit,
+    }
+}
+
+// Judges a candidate's flight: thirteen plain numbers, any 64-bit values, and the flight's numbers, pairs of acceleration and seconds, as many as there are.
+#[no_mangle]
+pub extern "C" fn judge_flight(
+    r: i64,
+    h: i64,
+    c: i64,
+    v: i64,
+    vi: i64,
+    p: i64,
+    k: i64,
+    e: i64,
+    sense: i64,
+    target: i64,
+    strength: i64,
+    delay: i64,
+    limit: i64,
+    flight: &[i64],
+) -> FlightResult
+    ensures { λ out. ⌜ out ≡ flatFlight (flightAnswer (plainEncounter r h c v vi) (plainSettings p k e) (plainAdvice sense target strength delay limit) (now (flight .entry))) ⌝ }
+{
+    let encounter = plain_encounter(r, h, c, v, vi);
+    let settings = plain_settings(p, k, e);
+    let advice = plain_advice(sense, target, strength, delay, limit);
+    flat_flight(candidate::judge_flight(encounter, settings, advice, flight))
 }

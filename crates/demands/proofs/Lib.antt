@@ -6,3 +6,4 @@ pub mod Exported
 pub mod MarkedAnswers
 pub mod ScreenRight
 pub mod ScreenExported
+pub mod FlightsRight

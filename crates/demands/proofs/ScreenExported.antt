@@ -30,11 +30,11 @@ use Rattle.demands.specs.Screen.{pieceIn, contentIn, pointIn, RightlyDra
 use Rattle.demands.proofs.ScreenRight.{at-most-three, drawing-right, point-right}
 
 -- ---- the refusals' numbers
-abbrev numbered : List Check → Bool
+abbrev pub numbered : List Check → Bool
 numbered [] = true
 numbered (c ∷ l) = ltb 0 (c .number) && numbered l
 
-first-number : (l : List Check) → T (numbered l) → (n : ℕ) → firstRefusal l ≡ Checked.Refused n → 0 < n
+pub first-number : (l : List Check) → T (numbered l) → (n : ℕ) → firstRefusal l ≡ Checked.Refused n → 0 < n
 first-number [] h n e = absurd (let z : _≡_ {A = ℕ} 0 1 = cc in omega arith)
 first-number (c ∷ l) h n e = go (c .passes) (first-number l (and-r (ltb 0 (c .number)) (numbered l) h) n) e
   where

@@ -8,3 +8,4 @@ pub mod Marked
 pub mod Screen
 pub mod Unchanged
 pub mod Larger
+pub mod Flights

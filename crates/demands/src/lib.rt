@@ -3,18 +3,23 @@
 ghost use lib.ListN.{take};
 ghost use lib.IntN.{pos, _-ℤ_};
 ghost use Rattle.screen.specs.Drawings.{content};
-ghost use Rattle.binding.specs.PlainNumbers.{plainEncounter, plainSettings, plainQuestion};
+ghost use Rattle.binding.specs.PlainNumbers.{plainEncounter, plainSettings, plainQuestion, plainAdvice};
 ghost use Rattle.demands.specs.PlainAnswer.{RightlyAnswered, RightlyExported};
 ghost use Rattle.demands.specs.Sheets.{SheetAnswered, outcomeIn};
 ghost use Rattle.demands.specs.Program.{Written};
 ghost use Rattle.demands.specs.Larger.{InRange, LargerOfZero};
+ghost use Rattle.demands.specs.Flights.{RightlyFlown, ClearKeepsOut, flightIn};
 ghost use Rattle.demands.specs.Screen.{RightlyDrawn, RightlyPlaced, contentIn, pointIn};
 use binding::DrawingResult;
+use binding::FlightResult;
 use binding::JudgeResult;
 use binding::PointResult;
 use binding::SheetResult;
 use binding::answer_sheet_bytes;
 use binding::judge_plain;
+use candidate::FlightAnswer;
+use candidate::OneSidedAdvice;
+use candidate::asked;
 use conflict::positive_difference;
 use judge::Answer;
 use judge::judge;
@@ -205,4 +210,76 @@ pub fn positive_difference_demanded(q: i64, u: i64) -> u64
     ensures { λ r. ⌜ LargerOfZero (q -ℤ u) (pos r) ⌝ }
 {
     positive_difference(q, u)
+}
+
+// The entry for a candidate's flight.
+pub fn flight_demanded(
+    encounter: Encounter,
+    settings: Settings,
+    advice: OneSidedAdvice,
+    flight: &[i64],
+) -> FlightAnswer
+    ensures { λ r. ⌜ RightlyFlown encounter settings advice (now (flight .entry)) r ⌝ }
+{
+    candidate::judge_flight(encounter, settings, advice, flight)
+}
+
+// The answers to a flight and to the question that its advice asks.
+pub struct BothAnswers {
+    pub judged: Answer,
+    pub flown: FlightAnswer,
+}
+
+pub fn flight_and_verdict_demanded(
+    encounter: Encounter,
+    settings: Settings,
+    advice: OneSidedAdvice,
+    flight: &[i64],
+) -> BothAnswers
+    ensures { λ r. ⌜ ClearKeepsOut encounter settings advice (now (flight .entry)) (r .judged) (r .flown) ⌝ }
+{
+    let question = asked(advice);
+    let judged = judge(encounter, settings, question);
+    let flown = candidate::judge_flight(encounter, settings, advice, flight);
+    BothAnswers {
+        judged: judged,
+        flown: flown,
+    }
+}
+
+// The same for C and Rust.
+pub fn exported_flight_demanded(
+    r: i64,
+    h: i64,
+    c: i64,
+    v: i64,
+    vi: i64,
+    p: i64,
+    k: i64,
+    e: i64,
+    sense: i64,
+    target: i64,
+    strength: i64,
+    delay: i64,
+    limit: i64,
+    flight: &[i64],
+) -> FlightResult
+    ensures { λ out. ⌜ RightlyFlown (plainEncounter r h c v vi) (plainSettings p k e) (plainAdvice sense target strength delay limit) (now (flight .entry)) (flightIn out) ⌝ }
+{
+    binding::judge_flight(
+        r,
+        h,
+        c,
+        v,
+        vi,
+        p,
+        k,
+        e,
+        sense,
+        target,
+        strength,
+        delay,
+        limit,
+        flight,
+    )
 }

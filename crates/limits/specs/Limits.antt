@@ -1,4 +1,4 @@
--- Document 01's table of limits ("Units"), row by row: the numbers, each of which stands here alone, and the test of a row. An encounter is r, h, c, v,
+-- Document 01's table of limits ("Units"), row by row, and document 02's sizes of a flight: the numbers, each of which stands here alone, and the test of a row. An encounter is r, h, c, v,
 -- vi; the settings are p, k, e; a question is sides, sense, target, upper target, strength a, upper strength b, delay d, limit.
 use mathlib.Core.Bool.{Bool, _&&_}
 use Prim.Native.Nat.{ℕ}
@@ -92,3 +92,27 @@ limitWithin = within (pos 0) (pos maxLimit)
 -- "or none": "Limit 65,535 means none."
 abbrev pub noLimit : ℤ
 noLimit = pos 65535
+
+-- ---- Document 02, "Judging a candidate's flight": "1 to 64 stretches, each a whole upward acceleration from −2,000 to 2,000 and 1 to 600 whole seconds, at
+-- most 600 in total"
+abbrev pub minStretches : ℕ
+minStretches = 1
+
+abbrev pub maxStretches : ℕ
+maxStretches = 64
+
+abbrev pub maxFlightAcceleration : ℕ
+maxFlightAcceleration = 2000
+
+abbrev pub flightAccelerationWithin : ℤ → Bool
+flightAccelerationWithin = within (negℤ (pos maxFlightAcceleration)) (pos maxFlightAcceleration)
+
+-- of a stretch, and in total
+abbrev pub minStretchSeconds : ℕ
+minStretchSeconds = 1
+
+abbrev pub maxFlightSeconds : ℕ
+maxFlightSeconds = 600
+
+abbrev pub stretchSecondsWithin : ℤ → Bool
+stretchSecondsWithin = within (pos minStretchSeconds) (pos maxFlightSeconds)

@@ -43,3 +43,16 @@ pub const MAX_LIMIT: i64 = 600;
 
 // The limit field that means none.
 pub const NO_LIMIT: i64 = 65535;
+
+// A flight (document 02): how many stretches, the acceleration of each, and the whole seconds of each and in total.
+pub const MIN_STRETCHES: usize = 1;
+
+pub const MAX_STRETCHES: usize = 64;
+
+pub const MAX_FLIGHT_ACCELERATION: i64 = 2000;
+
+pub const MIN_FLIGHT_ACCELERATION: i64 = -MAX_FLIGHT_ACCELERATION;
+
+pub const MIN_STRETCH_SECONDS: u64 = 1;
+
+pub const MAX_FLIGHT_SECONDS: u64 = 600;

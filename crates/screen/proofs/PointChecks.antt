@@ -1,8 +1,7 @@
--- Of two lists of checks one after the other, the second is asked where the first accepts. So a point is accepted exactly if its question is and its second
--- is at most 600, and else the question's refusal comes first. Assumes nothing.
-use mathlib.Core.Path.{_≡_, refl, sym, _∙_}
+-- A point is accepted exactly if its question is and its second is at most 600, and else the question's refusal comes first. Assumes nothing.
+use mathlib.Core.Path.{_≡_, refl, _∙_}
 use mathlib.Core.Bool.{Bool, true, false, cond}
-use mathlib.Core.List.{List, [], _∷_, _++_}
+use mathlib.Core.List.{[], _∷_}
 use Prim.Native.Nat.{ℕ, _≤_, _<_}
 use native.Mathlib.Omega.{arith}
 use lib.Dec.{leb}
@@ -12,35 +11,10 @@ use Rattle.question.specs.declared.Encounter.{Encounter}
 use Rattle.question.specs.declared.Settings.{Settings}
 use Rattle.question.specs.declared.Question.{Question}
 use Rattle.question.specs.declared.Checked.{Checked}
-use Rattle.question.specs.Refusals.{Check, check, firstRefusal, plainChecks, refusal}
+use Rattle.question.specs.Refusals.{check, plainChecks, refusal}
+use Rattle.refusals.proofs.TestedInOrder.{accepted-first, refused-first, both-accept}
 use Rattle.pieces.specs.Pieces.{lastSecond}
 use Rattle.screen.specs.Points.{pointRefusal}
-
-pub accepted-first : (l r : List Check) → firstRefusal l ≡ Checked.Accepted → firstRefusal (l ++ r) ≡ firstRefusal r
-accepted-first [] r e = refl
-accepted-first (c ∷ l) r e = go (accepted-first l r) (c .passes) e
-  where
-    go : (firstRefusal l ≡ Checked.Accepted → firstRefusal (l ++ r) ≡ firstRefusal r) → (b : Bool) → cond b (firstRefusal l) (Checked.Refused (c .number)) ≡ Checked.Accepted → cond b (firstRefusal (l ++ r)) (Checked.Refused (c .number)) ≡ firstRefusal r
-    go f true e = f e
-    go f false e = cc
-
-pub refused-first : (n : ℕ) (l r : List Check) → firstRefusal l ≡ Checked.Refused n → firstRefusal (l ++ r) ≡ Checked.Refused n
-refused-first n [] r e = cc
-refused-first n (c ∷ l) r e = go (refused-first n l r) (c .passes) e
-  where
-    go : (firstRefusal l ≡ Checked.Refused n → firstRefusal (l ++ r) ≡ Checked.Refused n) → (b : Bool) → cond b (firstRefusal l) (Checked.Refused (c .number)) ≡ Checked.Refused n → cond b (firstRefusal (l ++ r)) (Checked.Refused (c .number)) ≡ Checked.Refused n
-    go f true e = f e
-    go f false e = e
-
-pub both-accept : (l r : List Check) → firstRefusal (l ++ r) ≡ Checked.Accepted → (firstRefusal l ≡ Checked.Accepted) × (firstRefusal r ≡ Checked.Accepted)
-both-accept l r e = go (firstRefusal l) refl
-  where
-    go : (k : Checked) → firstRefusal l ≡ k → (firstRefusal l ≡ Checked.Accepted) × (firstRefusal r ≡ Checked.Accepted)
-    go Checked.Accepted f = (f, sym (accepted-first l r f) ∙ e)
-    go (Checked.Refused n) f = absurd (clash (sym (refused-first n l r f) ∙ e))
-      where
-        clash : Checked.Refused n ≡ Checked.Accepted → ⊥
-        clash g = let z : _≡_ {A = ℕ} 0 1 = cc in omega arith
 
 module _ (x : Encounter) (y : Settings) (z : Question) (t : ℕ) where
   -- accepted: the question is accepted, and the second is at most 600

@@ -23,7 +23,7 @@ struct Motion {
 }
 
 // w: +1 for climb, −1 for descend.
-fn sign_of(sense: Sense) -> i64
+pub fn sign_of(sense: Sense) -> i64
     ensures { λ w. ⌜ w ≡ sign sense ⌝ }
 {
     match sense {

@@ -26,7 +26,7 @@ pub fn positive_part(x: i64) -> u64
 }
 
 // |x|
-fn absolute(x: i64) -> u64
+pub fn absolute(x: i64) -> u64
     requires { ⌜ natAbs x < 2 ^ 63 ⌝ }
     ensures { λ r. ⌜ r ≡ natAbs x ⌝ }
 {
@@ -49,7 +49,7 @@ fn in_time(limit: Limit, n: u64, m: u64) -> bool
 }
 
 // r − c·t, times m.
-fn distance_at(s: SensedQuestion, n: u64, m: u64) -> i64
+pub fn distance_at(s: SensedQuestion, n: u64, m: u64) -> i64
     requires { ⌜ Sizes s ⌝ }
     requires { ⌜ InReach Lower n m ⌝ }
     ensures { λ r. ⌜ r ≡ distanceAt s n m ⌝ }

@@ -10,7 +10,7 @@ use Rattle.question.specs.declared.Checked.{Checked}
 use Rattle.question.specs.Refusals.{check, firstRefusal, plainChecks, refusal}
 use Rattle.pieces.specs.Pieces.{lastSecond}
 use Rattle.screen.specs.Points.{pointRefusal}
-use Rattle.screen.proofs.PointChecks.{accepted-first, refused-first}
+use Rattle.refusals.proofs.TestedInOrder.{accepted-first, refused-first}
 use Rattle.screen.proofs.check_point.Statement.{statement}
 use Rattle.screen.proofs.check_point.Tie as tie
 

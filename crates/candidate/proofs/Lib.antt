@@ -1,0 +1,2 @@
+pub mod RefusedAsAsked
+pub mod FlightRecords

@@ -1,0 +1,4 @@
+pub mod SensedStretches
+pub mod Seconds
+pub mod NextPlace
+pub mod WithinLimits

@@ -1,0 +1,3 @@
+-- Definitions that only inner contracts use; an instructor need not read them.
+pub mod SecondSizes
+pub mod SecondTests
