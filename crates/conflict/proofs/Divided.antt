@@ -12,14 +12,14 @@ use Rattle.integers.proofs.Laws.{≤ℤ-of-≡, same-test}
 use Rattle.path.specs.declared.SensedQuestion.{SensedQuestion}
 use Rattle.path.specs.declared.Side.{Side}
 use Rattle.path.specs.declared.Side.the-variants.{Lower, Upper}
-use Rattle.path.specs.Letters.{k, wh, u, q, a, d, e, b}
-use Rattle.path.specs.Paths.{adviceGain, delayHeight, u-d, lowerPath, upperPath}
-use Rattle.path.specs.Conflict.{lowerEdge, upperEdge}
+use Rattle.path.specs.Letters.{u, q, a, d, b}
+use Rattle.path.specs.Paths.{adviceGain, delayHeight, continued, u-d, speedReached, upperTarget}
+use Rattle.path.specs.inner.Sizes.{Sized}
 use Rattle.path.specs.inner.Tests.{notBeyond}
 use Rattle.path.proofs.AdviceRule.{gain-zero, gain-arc, gain-straight}
 use Rattle.path.proofs.Continued.{continued-before, continued-after}
 use Rattle.conflict.specs.declared.AdviceRule.{AdviceRule}
-use Rattle.conflict.specs.inner.Divided.{heightNotBeyond, delayNotBeyond, ruleOf, missing, arcNotBeyond, straightNotBeyond, ruleNotBeyond}
+use Rattle.conflict.specs.inner.Divided.{heightNotBeyond, bend, edgeHeight, delayNotBeyond, ruleOf, missing, arcNotBeyond, straightNotBeyond, ruleNotBeyond}
 
 -- y - x is i times y′ - x′, with i positive: the two orders are one
 module _ (x y x′ y′ : ℤ) (i : ℕ) (p : 0 < i) (f : y -ℤ x ≡ pos i *ℤ (y′ -ℤ x′)) where
@@ -53,27 +53,36 @@ module _ (side : Side) (rule : AdviceRule) (n m : ℕ) where
       (modulo (negsuc 0) (gain-straight (rule .strength) n m (rule .target) (rule .speed) l)
       (ring (rule .strength ∷ n ∷ m ∷ missing rule ∷ []) (rule .target ∷ rule .edge ∷ gain ∷ []) (λ v. search quote depth 20) tt))
 
--- ---- the two sides
-module _ (s : SensedQuestion) (n m : ℕ) where
+-- ---- a side: up to d the delay, with the strength divided out; then the rule, with the height at the delay's end taken from both sides
+module _ (side : Side) (b d : ℕ) (g u q v level : ℤ) (n m : ℕ) where
   abbrev after : ℕ → ℕ → ℤ
-  after = adviceGain (a s) (q s) (u-d s)
+  after = adviceGain b q v
 
-  pub delay-divided : 0 < a s → n ≤ d s * m → delayNotBeyond s n m ≡ notBeyond Lower s n m
-  unfolding notBeyond
-  delay-divided p l =
-      divided Lower (lowerPath s n m) (lowerEdge s m) (delayHeight (e s) (u s) n m) (pos 2 *ℤ pos m *ℤ pos m *ℤ (wh s +ℤ pos (k s))) (a s) p
-      (modulo (negsuc 0) (continued-before (a s) (delayHeight (e s) (u s)) (d s) 1 after (λ m. gain-zero (a s) m (q s) (u-d s)) n m l)
-      (ring (a s ∷ m ∷ k s ∷ []) (wh s ∷ lowerPath s n m ∷ delayHeight (e s) (u s) n m ∷ []) (λ v. search quote depth 20) tt))
+  abbrev height : ℤ
+  height = continued b (delayHeight g u) d 1 (adviceGain b q v) n m
 
-  pub lower-rule : d s * m ≤ n → ruleNotBeyond Lower (ruleOf Lower s) (n - d s * m) m ≡ notBeyond Lower s n m
-  unfolding notBeyond delayHeight
-  lower-rule l =
-      divided Lower (lowerPath s n m) (lowerEdge s m) (after (n - d s * m) m) (pos (a s) *ℤ pos m *ℤ pos m *ℤ ruleOf Lower s .edge) 1 (omega arith)
-      (modulo (negsuc 0) (continued-after (a s) (delayHeight (e s) (u s)) (d s) 1 after (λ m. gain-zero (a s) m (q s) (u-d s)) n m l)
-      (ring (a s ∷ m ∷ k s ∷ d s ∷ e s ∷ []) (wh s ∷ u s ∷ lowerPath s n m ∷ after (n - d s * m) m ∷ []) (λ v. search quote depth 20) tt))
+  abbrev edge : ℤ
+  edge = pos 2 *ℤ pos b *ℤ pos m *ℤ pos m *ℤ level
 
-  pub upper-rule : ruleNotBeyond Upper (ruleOf Upper s) n m ≡ notBeyond Upper s n m
-  unfolding notBeyond
-  upper-rule =
-      divided Upper (upperPath s n m) (upperEdge s m) (upperPath s n m) (pos (b s) *ℤ pos m *ℤ pos m *ℤ ruleOf Upper s .edge) 1 (omega arith)
-      (ring (b s ∷ m ∷ k s ∷ []) (wh s ∷ upperPath s n m ∷ []) (λ v. search quote depth 20) tt)
+  delayed : 0 < b → n ≤ d * m → heightNotBeyond side (delayHeight g u n m) (pos 2 *ℤ pos m *ℤ pos m *ℤ level) ≡ heightNotBeyond side height edge
+  delayed p l =
+      divided side height edge (delayHeight g u n m) (pos 2 *ℤ pos m *ℤ pos m *ℤ level) b p
+      (modulo (negsuc 0) (continued-before b (delayHeight g u) d 1 after (λ m. gain-zero b m q v) n m l)
+      (ring (b ∷ m ∷ []) (level ∷ height ∷ delayHeight g u n m ∷ []) (λ v. search quote depth 20) tt))
+
+  ruled : d * m ≤ n → heightNotBeyond side (after (n - d * m) m) (pos b *ℤ pos m *ℤ pos m *ℤ (pos 2 *ℤ level -ℤ delayHeight g u d 1)) ≡ heightNotBeyond side height edge
+  unfolding delayHeight
+  ruled l =
+      divided side height edge (after (n - d * m) m) (pos b *ℤ pos m *ℤ pos m *ℤ (pos 2 *ℤ level -ℤ delayHeight g u d 1)) 1 (omega arith)
+      (modulo (negsuc 0) (continued-after b (delayHeight g u) d 1 after (λ m. gain-zero b m q v) n m l)
+      (ring (b ∷ m ∷ d ∷ []) (g ∷ u ∷ level ∷ height ∷ after (n - d * m) m ∷ []) (λ v. search quote depth 20) tt))
+
+pub delay-divided : (side : Side) (s : SensedQuestion) (n m : ℕ) → Sized side s → n ≤ d s * m → delayNotBeyond side s n m ≡ notBeyond side s n m
+unfolding notBeyond
+delay-divided Lower s n m z l = delayed Lower (a s) (d s) (bend Lower s) (u s) (q s) (u-d s) (edgeHeight Lower s) n m (z .a-lo) l
+delay-divided Upper s n m z l = delayed Upper (b s) (d s) (bend Upper s) (u s) (upperTarget s) (speedReached s) (edgeHeight Upper s) n m (z .1 .b-lo) l
+
+pub rule-divided : (side : Side) (s : SensedQuestion) (n m : ℕ) → d s * m ≤ n → ruleNotBeyond side (ruleOf side s) (n - d s * m) m ≡ notBeyond side s n m
+unfolding notBeyond
+rule-divided Lower s n m l = ruled Lower (a s) (d s) (bend Lower s) (u s) (q s) (u-d s) (edgeHeight Lower s) n m l
+rule-divided Upper s n m l = ruled Upper (b s) (d s) (bend Upper s) (u s) (upperTarget s) (speedReached s) (edgeHeight Upper s) n m l

@@ -6,25 +6,37 @@
 ghost use mathlib.Core.Path.{_≡_};
 ghost use Prim.Native.Nat.{_*_, _≤_};
 ghost use Rattle.path.specs.declared.Side.the-variants.{Lower, Upper};
-ghost use Rattle.path.specs.Letters.{u, e};
-ghost use Rattle.path.specs.Paths.{delayHeight, u-d, upperTarget};
+ghost use Rattle.path.specs.Letters.{u};
+ghost use Rattle.path.specs.Paths.{delayHeight, upperTarget};
 ghost use Rattle.path.specs.inner.Tests.{notBeyond};
 ghost use Rattle.path.specs.inner.Sizes.{Sizes, Sized, InReach};
-ghost use Rattle.conflict.specs.inner.Divided.{delayNotBeyond, ruleOf, ruleNotBeyond, missing, arcNotBeyond, straightNotBeyond};
+ghost use Rattle.conflict.specs.inner.Divided.{bend, speedAfterDelay, edgeHeight, delayNotBeyond, ruleOf, ruleNotBeyond, missing, arcNotBeyond, straightNotBeyond};
 ghost use Rattle.conflict.specs.inner.RuleSizes.{RuleSizes, mostMissing, mostBend};
 use path::SensedQuestion;
 use path::Side;
 use window::positive_part;
 
-// The speed u_d at the delay's end.
-pub fn speed_after_delay(s: SensedQuestion) -> i64
+// The acceleration during the delay: against the advice on the lower path, towards it on the upper.
+fn delay_bend(side: Side, s: SensedQuestion) -> i64
     requires { ⌜ Sizes s ⌝ }
-    ensures { λ r. ⌜ r ≡ u-d s ⌝ }
+    ensures { λ r. ⌜ r ≡ bend side s ⌝ }
 {
-    let u = s.speed;
     let e = s.delay_acceleration as i64;
+    match side {
+        Side::Lower => -e,
+        Side::Upper => e,
+    }
+}
+
+// The speed at the delay's end: u_d, or on the upper path the speed reached.
+pub fn speed_after_delay(side: Side, s: SensedQuestion) -> i64
+    requires { ⌜ Sizes s ⌝ }
+    ensures { λ r. ⌜ r ≡ speedAfterDelay side s ⌝ }
+{
+    let bend = delay_bend(side, s);
+    let u = s.speed;
     let d = s.delay as i64;
-    u - e * d
+    u + bend * d
 }
 
 // The upper rule's target: an ownship that is faster already keeps its speed.
@@ -32,38 +44,54 @@ pub fn upper_target(s: SensedQuestion) -> i64
     requires { ⌜ Sized Upper s ⌝ }
     ensures { λ r. ⌜ r ≡ upperTarget s ⌝ }
 {
+    let speed = speed_after_delay(Side::Upper, s);
     let target = s.upper_target;
-    let u = s.speed;
-    if target <= u {
-        return u;
+    if target <= speed {
+        return speed;
     }
     target
 }
 
-// The height during the delay, times 2·m². At d/1 it is twice the height f_d, and whole: halving e·d² could lose half a grain.
-fn delay_height(s: SensedQuestion, n: u64, m: u64) -> i64
+// The height during the delay, times 2·m². At d/1 it is twice the height at the delay's end, and whole: halving e·d² could lose half a grain.
+fn delay_height(side: Side, s: SensedQuestion, n: u64, m: u64) -> i64
     requires { ⌜ Sizes s ⌝ }
     requires { ⌜ InReach Lower n m ⌝ }
-    ensures { λ r. ⌜ r ≡ delayHeight (e s) (u s) n m ⌝ }
+    ensures { λ r. ⌜ r ≡ delayHeight (bend side s) (u s) n m ⌝ }
 {
+    let bend = delay_bend(side, s);
     let u = s.speed;
-    let e = s.delay_acceleration as i64;
     let n = n as i64;
     let m = m as i64;
-    2 * u * n * m - e * n * n
+    2 * u * n * m + bend * n * n
 }
 
-// The delay against the lower edge, w·h + k.
-fn delay_not_beyond(s: SensedQuestion, n: u64, m: u64) -> bool
+// The height of the puck's edge: w·h + k, or on the upper side w·h − k.
+fn edge_height(side: Side, s: SensedQuestion) -> i64
     requires { ⌜ Sizes s ⌝ }
-    requires { ⌜ InReach Lower n m ⌝ }
-    ensures { λ r. ⌜ r ≡ delayNotBeyond s n m ⌝ }
+    ensures { λ r. ⌜ r ≡ edgeHeight side s ⌝ }
 {
-    let height = delay_height(s, n, m);
     let level = s.level;
     let k = s.half_height as i64;
+    match side {
+        Side::Lower => level + k,
+        Side::Upper => level - k,
+    }
+}
+
+// The delay against the puck's edge.
+fn delay_not_beyond(side: Side, s: SensedQuestion, n: u64, m: u64) -> bool
+    requires { ⌜ Sizes s ⌝ }
+    requires { ⌜ InReach Lower n m ⌝ }
+    ensures { λ r. ⌜ r ≡ delayNotBeyond side s n m ⌝ }
+{
+    let height = delay_height(side, s, n, m);
+    let edge = edge_height(side, s);
     let m = m as i64;
-    height <= 2 * m * m * (level + k)
+    let edge = 2 * m * m * edge;
+    match side {
+        Side::Lower => height <= edge,
+        Side::Upper => edge <= height,
+    }
 }
 
 // An advice rule from any height and speed on, so that one comparison serves both sides.
@@ -76,36 +104,28 @@ struct AdviceRule {
     edge: i64,
 }
 
-// From the delay's end on, against w·h + k.
-fn lower_rule(s: SensedQuestion) -> AdviceRule
-    requires { ⌜ Sizes s ⌝ }
-    ensures { λ r. ⌜ r ≡ ruleOf Lower s ⌝ }
+// A side's rule, from the delay's end on.
+fn advice_rule(side: Side, s: SensedQuestion) -> AdviceRule
+    requires { ⌜ Sized side s ⌝ }
+    ensures { λ r. ⌜ r ≡ ruleOf side s ⌝ }
 {
-    let u_d = speed_after_delay(s);
-    let start = delay_height(s, s.delay, 1);
-    let level = s.level;
-    let k = s.half_height as i64;
-    AdviceRule {
-        strength: s.strength,
-        target: s.target,
-        speed: u_d,
-        edge: 2 * (level + k) - start,
-    }
-}
-
-// From 0 on, against w·h − k.
-fn upper_rule(s: SensedQuestion) -> AdviceRule
-    requires { ⌜ Sized Upper s ⌝ }
-    ensures { λ r. ⌜ r ≡ ruleOf Upper s ⌝ }
-{
-    let target = upper_target(s);
-    let level = s.level;
-    let k = s.half_height as i64;
-    AdviceRule {
-        strength: s.upper_strength,
-        target: target,
-        speed: s.speed,
-        edge: 2 * (level - k),
+    let speed = speed_after_delay(side, s);
+    let start = delay_height(side, s, s.delay, 1);
+    let edge = edge_height(side, s);
+    let edge = 2 * edge - start;
+    match side {
+        Side::Lower => AdviceRule {
+            strength: s.strength,
+            target: s.target,
+            speed: speed,
+            edge: edge,
+        },
+        Side::Upper => AdviceRule {
+            strength: s.upper_strength,
+            target: upper_target(s),
+            speed: speed,
+            edge: edge,
+        },
     }
 }
 
@@ -176,39 +196,17 @@ fn rule_not_beyond(side: Side, rule: AdviceRule, n: u64, m: u64) -> bool
     straight_not_beyond(side, rule, gap, n, m)
 }
 
-// f against w·h + k.
-fn lower_not_beyond(s: SensedQuestion, n: u64, m: u64) -> bool
-    requires { ⌜ Sizes s ⌝ }
-    requires { ⌜ InReach Lower n m ⌝ }
-    ensures { λ r. ⌜ r ≡ notBeyond Lower s n m ⌝ }
-{
-    let d = s.delay;
-    let end = d * m;
-    if n <= end {
-        return delay_not_beyond(s, n, m);
-    }
-    let rule = lower_rule(s);
-    rule_not_beyond(Side::Lower, rule, n - end, m)
-}
-
-// j against w·h − k.
-fn upper_not_beyond(s: SensedQuestion, n: u64, m: u64) -> bool
-    requires { ⌜ Sized Upper s ⌝ }
-    requires { ⌜ InReach Upper n m ⌝ }
-    ensures { λ r. ⌜ r ≡ notBeyond Upper s n m ⌝ }
-{
-    let rule = upper_rule(s);
-    rule_not_beyond(Side::Upper, rule, n, m)
-}
-
-// Is a side's path "not strictly beyond" the puck's edge at n/m?
+// Is a side's path "not strictly beyond" the puck's edge at n/m? Up to d it is the delay, then the rule.
 pub fn not_beyond(side: Side, s: SensedQuestion, n: u64, m: u64) -> bool
     requires { ⌜ Sized side s ⌝ }
     requires { ⌜ InReach side n m ⌝ }
     ensures { λ r. ⌜ r ≡ notBeyond side s n m ⌝ }
 {
-    match side {
-        Side::Lower => lower_not_beyond(s, n, m),
-        Side::Upper => upper_not_beyond(s, n, m),
+    let d = s.delay;
+    let end = d * m;
+    if n <= end {
+        return delay_not_beyond(side, s, n, m);
     }
+    let rule = advice_rule(side, s);
+    rule_not_beyond(side, rule, n - end, m)
 }

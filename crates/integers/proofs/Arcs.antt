@@ -1,43 +1,38 @@
--- The arcs of the paths as bare polynomials: where they rise and fall, that they are concave, and that their scale is free. Each is one
--- certificate; the crate `path` cites them. m is the denominator of a time, n, n₁, n₂ numerators, the speeds u and q are times m. Assumes nothing.
-use mathlib.Core.Path.{_≡_, ap, subst}
+-- The arcs of the paths as bare polynomials: where they rise and fall, and that their scale is free. Each is one certificate; the crate `path` cites
+-- them. m is the denominator of a time, n, n₁, n₂ numerators, the speeds u and q are times m. Assumes nothing.
+use mathlib.Core.Path.{_≡_, ap}
 use mathlib.Core.List.{[], _∷_}
-use mathlib.Core.Logic.{⊎-elim}
 use Prim.Native.Nat.{ℕ, _+_, _*_, _≤_}
-use native.Mathlib.Omega.{arith}
-use lib.IntN.{ℤ, pos, _+ℤ_, _-ℤ_, _*ℤ_}
-use lib.Signed.{_≤ℤ_, _<ℤ_}
-use Rattle.integers.proofs.Difference.{parts≤}
+use lib.IntN.{ℤ, pos, negℤ, _+ℤ_, _-ℤ_, _*ℤ_}
+use lib.Signed.{_≤ℤ_}
 use Rattle.integers.proofs.Quotation.{quote}
-use Rattle.integers.proofs.Certificates.{ring, modulo, by≤, div<, gap≤, gap<, _⊞_, _⊠_, 0≤pos, 0≤square, pos≤, positive-gap, split<}
+use Rattle.integers.proofs.Certificates.{ring, modulo, by≤, gap≤, _⊞_, _⊠_, 0≤pos, 0≤square, pos≤}
 
--- ---- a delay arc: u*t - e*t²/2 at t = n/m, times 2*m²
-abbrev pub delay-arc : ℕ → ℤ → ℕ → ℕ → ℤ
-delay-arc e u n m = pos 2 *ℤ u *ℤ pos n *ℤ pos m -ℤ pos e *ℤ pos n *ℤ pos n
+-- ---- a delay arc: u*t + g*t²/2 at t = n/m, times 2*m²
+abbrev pub delay-arc : ℤ → ℤ → ℕ → ℕ → ℤ
+delay-arc g u n m = pos 2 *ℤ u *ℤ pos n *ℤ pos m +ℤ g *ℤ pos n *ℤ pos n
 
+-- bent downwards, g = -e, or upwards, g = e
 module _ (e n₁ n₂ m : ℕ) (u : ℤ) (l : n₁ ≤ n₂) where
-  -- it rises up to n₂ where the speed there, u - e*n₂/m, is not negative
-  pub delay-arc-rises : (pos e *ℤ pos n₂) ≤ℤ (u *ℤ pos m) → delay-arc e u n₁ m ≤ℤ delay-arc e u n₂ m
+  -- downwards, it rises up to n₂ where the speed there, u - e*n₂/m, is not negative
+  pub delay-arc-rises : (pos e *ℤ pos n₂) ≤ℤ (u *ℤ pos m) → delay-arc (negℤ (pos e)) u n₁ m ≤ℤ delay-arc (negℤ (pos e)) u n₂ m
   delay-arc-rises h = by≤ (e ∷ n₁ ∷ n₂ ∷ m ∷ []) (u ∷ []) (0≤pos 2 ⊠ gap≤ (pos≤ l) ⊠ gap≤ h ⊞ 0≤pos e ⊠ 0≤square (pos n₂ -ℤ pos n₁)) (λ v. search quote depth 20) tt
 
   -- and falls from n₁ on where the speed there is not positive
-  pub delay-arc-falls : (u *ℤ pos m) ≤ℤ (pos e *ℤ pos n₁) → delay-arc e u n₂ m ≤ℤ delay-arc e u n₁ m
+  pub delay-arc-falls : (u *ℤ pos m) ≤ℤ (pos e *ℤ pos n₁) → delay-arc (negℤ (pos e)) u n₂ m ≤ℤ delay-arc (negℤ (pos e)) u n₁ m
   delay-arc-falls h = by≤ (e ∷ n₁ ∷ n₂ ∷ m ∷ []) (u ∷ []) (0≤pos 2 ⊠ gap≤ (pos≤ l) ⊠ gap≤ h ⊞ 0≤pos e ⊠ 0≤square (pos n₂ -ℤ pos n₁)) (λ v. search quote depth 20) tt
 
--- concave: above a level at both ends, it is above it between
-pub delay-arc-concave : (e m n₁ n n₂ : ℕ) (u level : ℤ) → n₁ ≤ n → n ≤ n₂ → level <ℤ delay-arc e u n₁ m → level <ℤ delay-arc e u n₂ m → level <ℤ delay-arc e u n m
-delay-arc-concave e m n₁ n n₂ u level p q h k =
-    let x = gap≤ (pos≤ p) in
-    let y = gap≤ (pos≤ q) in
-    ⊎-elim
-    (λ (l : pos n₁ <ℤ pos n₂). div< (e ∷ m ∷ n₁ ∷ n ∷ n₂ ∷ []) (u ∷ level ∷ []) (positive-gap l)
-    (y ⊠ gap< h ⊞ x ⊠ gap< k ⊞ 0≤pos e ⊠ (x ⊠ y ⊠ (x ⊞ y))) (λ v. search quote depth 20) tt)
-    (λ (l : pos n₂ ≤ℤ pos n₁). subst (λ (t : ℕ). level <ℤ delay-arc e u t m) (omega (arith, parts≤)) h)
-    (split< (pos n₁) (pos n₂))
+  -- upwards, it rises from n₁ on where the speed there, u + e*n₁/m, is not negative
+  pub upward-arc-rises : pos 0 ≤ℤ (u *ℤ pos m +ℤ pos e *ℤ pos n₁) → delay-arc (pos e) u n₁ m ≤ℤ delay-arc (pos e) u n₂ m
+  upward-arc-rises h = by≤ (e ∷ n₁ ∷ n₂ ∷ m ∷ []) (u ∷ []) (0≤pos 2 ⊠ gap≤ (pos≤ l) ⊠ gap≤ h ⊞ 0≤pos e ⊠ 0≤square (pos n₂ -ℤ pos n₁)) (λ v. search quote depth 20) tt
+
+  -- and falls up to n₂ where the speed there is not positive
+  pub upward-arc-falls : (u *ℤ pos m +ℤ pos e *ℤ pos n₂) ≤ℤ pos 0 → delay-arc (pos e) u n₂ m ≤ℤ delay-arc (pos e) u n₁ m
+  upward-arc-falls h = by≤ (e ∷ n₁ ∷ n₂ ∷ m ∷ []) (u ∷ []) (0≤pos 2 ⊠ gap≤ (pos≤ l) ⊠ gap≤ h ⊞ 0≤pos e ⊠ 0≤square (pos n₂ -ℤ pos n₁)) (λ v. search quote depth 20) tt
 
 -- the time n*s/m*s is n/m: only the scale changes
-pub delay-arc-scale : (e n m s : ℕ) (u : ℤ) → delay-arc e u (n * s) (m * s) ≡ pos s *ℤ pos s *ℤ delay-arc e u n m
-delay-arc-scale e n m s u = ring (e ∷ n ∷ m ∷ s ∷ []) (u ∷ []) (λ v. search quote depth 20) tt
+pub delay-arc-scale : (g : ℤ) (n m s : ℕ) (u : ℤ) → delay-arc g u (n * s) (m * s) ≡ pos s *ℤ pos s *ℤ delay-arc g u n m
+delay-arc-scale g n m s u = ring (n ∷ m ∷ s ∷ []) (g ∷ u ∷ []) (λ v. search quote depth 20) tt
 
 -- ---- the advice rule's arc and straight in one: 2*a*q*n*m - (g*m)² + w², where g is the speed missing at first, and w, times m, that missing at n/m
 unfoldable pub advice-arc : ℕ → ℤ → ℕ → ℕ → ℕ → ℕ → ℤ

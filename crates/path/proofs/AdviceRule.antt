@@ -14,7 +14,7 @@ use Rattle.integers.proofs.Difference.{cond-by}
 use Rattle.integers.proofs.Quotation.{quote}
 use Rattle.integers.proofs.Certificates.{ring, modulo, by≤, gap≤, _⊠_, 0≤pos, pos≤}
 use Rattle.integers.proofs.Laws.{≤ℤ-of-≡, ≤ℤ-trans, split≤, max0-is, max0-le}
-use Rattle.integers.proofs.Arcs.{delay-arc-rises, delay-arc-falls, delay-arc-scale, advice-arc, advice-arc-rises, advice-arc-falls, advice-arc-scale}
+use Rattle.integers.proofs.Arcs.{delay-arc-rises, delay-arc-falls, upward-arc-rises, upward-arc-falls, delay-arc-scale, advice-arc, advice-arc-rises, advice-arc-falls, advice-arc-scale}
 use Rattle.path.specs.Paths.{adviceGain, delayHeight}
 
 -- ---- the rule in one formula
@@ -140,15 +140,24 @@ module _ (a n₁ n₂ m q : ℕ) where
 pub gain-sinks : (a n₁ n₂ m : ℕ) (q x : ℤ) → q ≤ℤ pos 0 → n₁ ≤ n₂ → adviceGain a q x n₂ m ≤ℤ adviceGain a q x n₁ m
 gain-sinks a n₁ n₂ m q x h l = gain-falls a n₁ n₂ m q x l (by≤ (m ∷ missing a q x n₂ m ∷ []) (q ∷ []) (gap≤ h ⊠ 0≤pos m) (λ v. search quote depth 20) tt)
 
--- ---- the delay rises up to n₂ where the speed there, u - e*n₂/m, is not negative, and falls from n₁ on where the speed there is not positive
+-- ---- the lower delay rises up to n₂ where the speed there, u - e*n₂/m, is not negative, and falls from n₁ on where the speed there is not positive
 module _ (e n₁ n₂ m : ℕ) (u : ℤ) (l : n₁ ≤ n₂) where
-  pub delay-rises : (pos e *ℤ pos n₂) ≤ℤ (u *ℤ pos m) → delayHeight e u n₁ m ≤ℤ delayHeight e u n₂ m
+  pub delay-rises : (pos e *ℤ pos n₂) ≤ℤ (u *ℤ pos m) → delayHeight (negℤ (pos e)) u n₁ m ≤ℤ delayHeight (negℤ (pos e)) u n₂ m
   unfolding delayHeight
   delay-rises = delay-arc-rises e n₁ n₂ m u l
 
-  pub delay-falls : (u *ℤ pos m) ≤ℤ (pos e *ℤ pos n₁) → delayHeight e u n₂ m ≤ℤ delayHeight e u n₁ m
+  pub delay-falls : (u *ℤ pos m) ≤ℤ (pos e *ℤ pos n₁) → delayHeight (negℤ (pos e)) u n₂ m ≤ℤ delayHeight (negℤ (pos e)) u n₁ m
   unfolding delayHeight
   delay-falls = delay-arc-falls e n₁ n₂ m u l
+
+  -- the upper delay rises from n₁ on where the speed there, u + e*n₁/m, is not negative, and falls up to n₂ where the speed there is not positive
+  pub upper-delay-rises : pos 0 ≤ℤ (u *ℤ pos m +ℤ pos e *ℤ pos n₁) → delayHeight (pos e) u n₁ m ≤ℤ delayHeight (pos e) u n₂ m
+  unfolding delayHeight
+  upper-delay-rises = upward-arc-rises e n₁ n₂ m u l
+
+  pub upper-delay-falls : (u *ℤ pos m +ℤ pos e *ℤ pos n₂) ≤ℤ pos 0 → delayHeight (pos e) u n₂ m ≤ℤ delayHeight (pos e) u n₁ m
+  unfolding delayHeight
+  upper-delay-falls = upward-arc-falls e n₁ n₂ m u l
 
 -- ---- a time may be written with any denominator: the heights at (n*s)/(m*s) are those at n/m, times s*s
 pub difference-scale : (b x s b′ x′ : ℕ) → b′ ≡ s * b → x′ ≡ s * x → b′ - x′ ≡ (b - x) * s
@@ -161,6 +170,6 @@ gain-scale a n m s q x =
     ∙ advice-arc-scale a g (missing a q x n m) (missing a q x (n * s) (m * s)) n m s q (difference-scale (g * m) (a * n) s (g * (m * s)) (a * (n * s)) (omega arith) (omega arith))
     ∙ ap (λ (z : ℤ). pos s *ℤ pos s *ℤ z) (sym (gain-formula a n m q x))
 
-pub delay-scale : (e n m s : ℕ) (u : ℤ) → delayHeight e u (n * s) (m * s) ≡ pos s *ℤ pos s *ℤ delayHeight e u n m
+pub delay-scale : (g : ℤ) (n m s : ℕ) (u : ℤ) → delayHeight g u (n * s) (m * s) ≡ pos s *ℤ pos s *ℤ delayHeight g u n m
 unfolding delayHeight
-delay-scale e n m s u = delay-arc-scale e n m s u
+delay-scale g n m s u = delay-arc-scale g n m s u

@@ -1,5 +1,5 @@
--- A path that goes on by another from a whole second w on: its value before and after, its scale, and its pieces, which are the first's up to
--- there and the second's, shifted, after it. Assumes nothing.
+-- A path that goes on by another from a whole second w on: its value before and after, its scale, that two valleys may make one, and its pieces, which are the
+-- first's up to there and the second's, shifted, after it. Assumes nothing.
 use mathlib.Core.Path.{_≡_, refl, sym, ap, _∙_}
 use mathlib.Core.List.{List, [], _∷_, _++_}
 use mathlib.Core.Logic.{_⊎_, inl, inr, ⊎-elim}
@@ -52,6 +52,67 @@ module _ (j : ℕ) (p : ℕ → ℕ → ℤ) (w k : ℕ) (h : ℕ → ℕ → �
 
   pub after-keeps : (m x z : ℕ) → w * m ≤ x → w * m ≤ z → h (x - w * m) m ≤ℤ h (z - w * m) m → continued j p w k h x m ≤ℤ continued j p w k h z m
   after-keeps m x z a b l = ≤ℤ-trans (≤ℤ-of-≡ (continued-after x m a)) (≤ℤ-trans (by≤ (j ∷ k ∷ []) (p (w * m) m ∷ h (x - w * m) m ∷ h (z - w * m) m ∷ []) (0≤pos k ⊠ gap≤ l) (λ v. search quote depth 20) tt) (≤ℤ-of-≡ (sym (continued-after z m b))))
+
+-- ---- a valley, wherever it turns: falling up to y or rising from y on, at each y
+abbrev pub Valley : (ℕ → ℤ) → Type 0
+Valley F = (x y z : ℕ) → x ≤ y → y ≤ z → (F y ≤ℤ F x) ⊎ (F y ≤ℤ F z)
+
+abbrev pub Rising : (ℕ → ℤ) → Type 0
+Rising F = (x z : ℕ) → x ≤ z → F x ≤ℤ F z
+
+abbrev pub Falling : (ℕ → ℤ) → Type 0
+Falling F = (x z : ℕ) → x ≤ z → F z ≤ℤ F x
+
+abbrev pub FallingTo : ℕ → (ℕ → ℤ) → Type 0
+FallingTo B F = (x z : ℕ) → x ≤ z → z ≤ B → F z ≤ℤ F x
+
+-- two valleys make one where the slope does not jump from up to down: the first falls to the end of its part, or the second rises from its start
+module _ (j : ℕ) (p : ℕ → ℕ → ℤ) (w k : ℕ) (h : ℕ → ℕ → ℤ) (h-zero : (m : ℕ) → h 0 m ≡ pos 0) (m : ℕ) where
+  abbrev B : ℕ
+  B = w * m
+
+  abbrev before : (x z : ℕ) → x ≤ B → z ≤ B → p x m ≤ℤ p z m → continued j p w k h x m ≤ℤ continued j p w k h z m
+  before = before-keeps j p w k h h-zero m
+
+  abbrev after : (x z : ℕ) → B ≤ x → B ≤ z → h (x - B) m ≤ℤ h (z - B) m → continued j p w k h x m ≤ℤ continued j p w k h z m
+  after = after-keeps j p w k h h-zero m
+
+  pub joined-valley : Valley (λ n. p n m) → Valley (λ n. h n m) → FallingTo (w * m) (λ n. p n m) ⊎ Rising (λ n. h n m) → Valley (λ n. continued j p w k h n m)
+  joined-valley f g (inl down) x y z l i = ⊎-elim
+      (λ (o : y ≤ B). inl (before y x o (omega arith) (down x y l o)))
+      (λ (o : B < y). ⊎-elim
+      (λ (t : x ≤ B). ⊎-elim
+      (λ c. inl (≤ℤ-trans (after y B (omega arith) (omega arith) c) (before B x (omega arith) t (down x B t (omega arith)))))
+      (λ c. inr (after y z (omega arith) (omega arith) c))
+      (g (B - B) (y - B) (z - B) (omega arith) (omega arith)))
+      (λ (t : B < x). ⊎-elim
+      (λ c. inl (after y x (omega arith) (omega arith) c))
+      (λ c. inr (after y z (omega arith) (omega arith) c))
+      (g (x - B) (y - B) (z - B) (omega arith) (omega arith)))
+      (split≤ x B))
+      (split≤ y B)
+  joined-valley f g (inr up) x y z l i = ⊎-elim
+      (λ (o : y ≤ B). ⊎-elim
+      (λ (t : z ≤ B). ⊎-elim
+      (λ c. inl (before y x o (omega arith) c))
+      (λ c. inr (before y z o t c))
+      (f x y z l i))
+      (λ (t : B < z). ⊎-elim
+      (λ c. inl (before y x o (omega arith) c))
+      (λ c. inr (≤ℤ-trans (before y B o (omega arith) c) (after B z (omega arith) (omega arith) (up (B - B) (z - B) (omega arith)))))
+      (f x y B l o))
+      (split≤ z B))
+      (λ (o : B < y). inr (after y z (omega arith) (omega arith) (up (y - B) (z - B) (omega arith))))
+      (split≤ y B)
+
+  pub joined-falling : FallingTo (w * m) (λ n. p n m) → Falling (λ n. h n m) → Falling (λ n. continued j p w k h n m)
+  joined-falling f g x z l = ⊎-elim
+      (λ (o : z ≤ B). before z x o (omega arith) (f x z l o))
+      (λ (o : B < z). ⊎-elim
+      (λ (t : x ≤ B). ≤ℤ-trans (after z B (omega arith) (omega arith) (g (B - B) (z - B) (omega arith))) (before B x (omega arith) t (f x B t (omega arith))))
+      (λ (t : B < x). after z x (omega arith) (omega arith) (g (x - B) (z - B) (omega arith)))
+      (split≤ x B))
+      (split≤ z B)
 
 -- ---- the second's pieces, B later
 abbrev pub later : ℕ → List ℕ → List ℕ

@@ -10,3 +10,4 @@ pub mod Decisions
 pub mod WholeSeconds
 pub mod Risen
 pub mod SideSizes
+pub mod WithoutDelay

@@ -28,7 +28,7 @@ module _ (s : SensedQuestion) (pa : 0 < s .strength) (h : pos 0 ≤ℤ s .target
   rises : (x y m : ℕ) → x ≤ y → s .delay * s .strength * m + max0 (negℤ (u-d s)) * m ≤ x * s .strength → lowerPath s x m ≤ℤ lowerPath s y m
   rises x y m l t =
       let d : s .delay * m ≤ x = le-of-mul-le-mul-right {m = s .delay * m} {n = x} {k = s .strength} (omega arith) pa in
-      after-keeps (s .strength) (delayHeight (s .«delay_acceleration») (s .speed)) (s .delay) 1 (adviceGain (s .strength) (s .target) (u-d s)) (λ m. gain-zero (s .strength) m (s .target) (u-d s)) m x y d (omega arith)
+      after-keeps (s .strength) (delayHeight (negℤ (pos (s .«delay_acceleration»))) (s .speed)) (s .delay) 1 (adviceGain (s .strength) (s .target) (u-d s)) (λ m. gain-zero (s .strength) m (s .target) (u-d s)) m x y d (omega arith)
       (gain-risen (s .strength) (x - s .delay * m) (y - s .delay * m) m (s .target) (u-d s) h (omega arith) (omega (arith, mul-sub (s .strength) x (s .delay * m))))
 
   pub risen : (x t : Instant) → 0 < x .m → 0 < t .m → s .delay * s .strength + max0 (negℤ (u-d s)) ÷ s .strength ≼ x → x ≼ t → NotBeyond Lower s (t .n) (t .m) → NotBeyond Lower s (x .n) (x .m)

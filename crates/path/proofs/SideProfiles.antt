@@ -13,22 +13,22 @@ use Rattle.limits.specs.Limits.{maxHeight}
 use Rattle.integers.specs.Extremes.{max0}
 use Rattle.integers.proofs.Quotation.{quote}
 use Rattle.integers.proofs.Certificates.{ring, by≤, gap≤, gap<, _⊞_, _⊠_, 0≤pos, pos≤, split<}
-use Rattle.integers.proofs.Laws.{≤ℤ-of-≡, <ℤ-≤ℤ, ≤ℤ-trans, negℤ-mono, negℤ-cancel, maxℤ-above}
+use Rattle.integers.proofs.Laws.{≤ℤ-of-≡, <ℤ-≤ℤ, ≤ℤ-trans, negℤ-mono, negℤ-cancel, max0-same, maxℤ-above, maxℤ-right}
 use Rattle.instant.specs.declared.Instant.{Instant}
 use Rattle.instant.specs.declared.Moment.the-variants.{Never}
 use Rattle.instant.specs.Order.{_÷_, _≼_}
 use Rattle.path.specs.declared.SensedQuestion.{SensedQuestion}
 use Rattle.path.specs.declared.Side.{Side}
 use Rattle.path.specs.declared.Side.the-variants.{Lower, Upper}
-use Rattle.path.specs.Paths.{adviceGain, delayHeight, u-d, lowerPath, upperTarget, upperPath}
+use Rattle.path.specs.Paths.{adviceGain, delayHeight, continued, u-d, lowerPath, speedReached, upperTarget, upperPath}
 use Rattle.path.specs.Window.{Window, windowStart, windowEnd}
 use Rattle.path.specs.Conflict.{lowerEdge, upperEdge, NotBeyond, Conflict}
 use Rattle.path.specs.Instants.{Among, asList, turningInstant, pathInstants, instants}
 use Rattle.path.specs.inner.Sizes.{maxSpeedDifference, Sizes, Sized, searchSeconds, searchEnd}
 use Rattle.path.proofs.Membership.{among-one, among-either}
-use Rattle.path.proofs.AdviceRule.{missing, gain-rises, gain-falls, gain-at-most, gain-at-least, gain-zero, falls-to-turning, rises-from-turning, gain-sinks, delay-rises, delay-falls, gain-scale, delay-scale}
+use Rattle.path.proofs.AdviceRule.{missing, gain-rises, gain-falls, gain-at-most, gain-at-least, gain-zero, falls-to-turning, rises-from-turning, gain-sinks, delay-rises, delay-falls, upper-delay-rises, upper-delay-falls, gain-scale, delay-scale}
 use Rattle.path.proofs.Pieces.{Pieces, last-hill, last-rise, last-valley, EndsInHill}
-use Rattle.path.proofs.Continued.{later, continued-after, continued-pieces, continued-scale}
+use Rattle.path.proofs.Continued.{later, continued-after, continued-pieces, continued-scale, Valley, Rising, Falling, FallingTo, joined-valley, joined-falling}
 use Rattle.path.proofs.Interval.{Multiple, Over, over-multiple, Place}
 use Rattle.path.proofs.WindowEnds.{window-between, between-window, windowStart-divisor, windowEnd-divisor}
 use Rattle.path.proofs.Profile.{Shape, Profile, Low, low-instant}
@@ -39,7 +39,7 @@ Approaches Lower s = s .target <ℤ pos 0
 Approaches Upper s = pos 0 <ℤ upperTarget s
 
 -- ---- the delay is a hill
-delay-pieces : (e M : ℕ) (u : ℤ) → Pieces (λ n. delayHeight e u n M) 0 []
+delay-pieces : (e M : ℕ) (u : ℤ) → Pieces (λ n. delayHeight (negℤ (pos e)) u n M) 0 []
 delay-pieces e M u = last-hill (λ x y z i j k. ⊎-elim
     (λ (h : (u *ℤ pos M) <ℤ (pos e *ℤ pos y)). inr (delay-falls e y z M u k (<ℤ-≤ℤ h)))
     (λ (h : (pos e *ℤ pos y) ≤ℤ (u *ℤ pos M)). inl (delay-rises e x y M u j h))
@@ -87,7 +87,7 @@ pub lower-shape : (s : SensedQuestion) → 0 < s .strength → (M : ℕ) → 0 <
 lower-shape s pa M pM f =
     let rule = adviceGain (s .strength) (s .target) (u-d s) in
     let r = rule-shape (s .strength) (s .delay) (s .target) (u-d s) M pa pM (λ t i. f t (inr i)) in
-    let c = continued-pieces (s .strength) (delayHeight (s .«delay_acceleration») (s .speed)) (s .delay) 1 rule (λ m. gain-zero (s .strength) m (s .target) (u-d s)) M
+    let c = continued-pieces (s .strength) (delayHeight (negℤ (pos (s .«delay_acceleration»))) (s .speed)) (s .delay) 1 rule (λ m. gain-zero (s .strength) m (s .target) (u-d s)) M
     (delay-pieces (s .«delay_acceleration») M (s .speed)) (r .pieces) in
     record {
       marks = c .marks;
@@ -100,8 +100,8 @@ lower-shape s pa M pM f =
     }
 
 pub lower-scale : (s : SensedQuestion) (n m x : ℕ) → lowerPath s (n * x) (m * x) ≡ pos x *ℤ pos x *ℤ lowerPath s n m
-lower-scale s = continued-scale (s .strength) (delayHeight (s .«delay_acceleration») (s .speed)) (s .delay) 1 (adviceGain (s .strength) (s .target) (u-d s)) (λ m. gain-zero (s .strength) m (s .target) (u-d s))
-    (λ n m x. delay-scale (s .«delay_acceleration») n m x (s .speed)) (λ n m x. gain-scale (s .strength) n m x (s .target) (u-d s))
+lower-scale s = continued-scale (s .strength) (delayHeight (negℤ (pos (s .«delay_acceleration»))) (s .speed)) (s .delay) 1 (adviceGain (s .strength) (s .target) (u-d s)) (λ m. gain-zero (s .strength) m (s .target) (u-d s))
+    (λ n m x. delay-scale (negℤ (pos (s .«delay_acceleration»))) n m x (s .speed)) (λ n m x. gain-scale (s .strength) n m x (s .target) (u-d s))
 
 pub lower-edge-scale : (s : SensedQuestion) (m x : ℕ) → lowerEdge s (m * x) ≡ pos x *ℤ pos x *ℤ lowerEdge s m
 lower-edge-scale s m x = ring (s .strength ∷ m ∷ x ∷ s .«half_height» ∷ []) (s .level ∷ []) (λ v. search quote depth 20) tt
@@ -114,24 +114,61 @@ turning-divisor (negsuc q) a d x t h i = absurd i
 turned-scale : (s : ℕ) (x y : ℤ) → x ≡ pos s *ℤ pos s *ℤ y → negℤ x ≡ pos s *ℤ pos s *ℤ negℤ y
 turned-scale s x y h = ap negℤ h ∙ ring (s ∷ []) (y ∷ []) (λ v. search quote depth 20) tt
 
-pub upper-shape : (b : ℕ) (q u : ℤ) (M : ℕ) → Shape (λ n m. negℤ (adviceGain b q u n m)) [] (pos 0 <ℤ q) M
-upper-shape b q u M = ⊎-elim
-    (λ (t : pos 0 <ℤ q). record {
-      marks = [];
-      places = λ x h. absurd h;
-      tail = λ _. t;
-      pieces = last-hill (λ x y z i j k. ⊎-elim
-          (λ (h : (q *ℤ pos M) <ℤ pos (missing b q u y M)). inl (negℤ-mono (gain-falls b x y M q u j (<ℤ-≤ℤ h))))
-          (λ (h : pos (missing b q u y M) ≤ℤ (q *ℤ pos M)). inr (negℤ-mono (gain-rises b y z M q u k h)))
-          (split< (q *ℤ pos M) (pos (missing b q u y M))));
-    })
-    (λ (t : q ≤ℤ pos 0). record {
-      marks = [];
-      places = λ x h. absurd h;
-      tail = λ h. absurd h;
-      pieces = last-rise (λ x z i j. negℤ-mono (gain-sinks b x z M q u t j));
-    })
-    (split< (pos 0) q)
+-- it is a valley, as its speed never falls: it is u + e*t during the delay, and goes on from the speed reached
+module _ (b e d M : ℕ) (u Q : ℤ) (reached : (u +ℤ pos e *ℤ pos d) ≤ℤ Q) where
+  abbrev v : ℤ
+  v = u +ℤ pos e *ℤ pos d
+
+  delay-valley : Valley (λ n. delayHeight (pos e) u n M)
+  delay-valley x y z l k = ⊎-elim
+      (λ (h : (u *ℤ pos M +ℤ pos e *ℤ pos y) <ℤ pos 0). inl (upper-delay-falls e x y M u l (<ℤ-≤ℤ h)))
+      (λ (h : pos 0 ≤ℤ (u *ℤ pos M +ℤ pos e *ℤ pos y)). inr (upper-delay-rises e y z M u k h))
+      (split< (u *ℤ pos M +ℤ pos e *ℤ pos y) (pos 0))
+
+  rule-valley : Valley (λ n. adviceGain b Q v n M)
+  rule-valley x y z l k = ⊎-elim
+      (λ (h : (Q *ℤ pos M) <ℤ pos (missing b Q v y M)). inl (gain-falls b x y M Q v l (<ℤ-≤ℤ h)))
+      (λ (h : pos (missing b Q v y M) ≤ℤ (Q *ℤ pos M)). inr (gain-rises b y z M Q v k h))
+      (split< (Q *ℤ pos M) (pos (missing b Q v y M)))
+
+  delay-falling : v ≤ℤ pos 0 → FallingTo (d * M) (λ n. delayHeight (pos e) u n M)
+  delay-falling h x z l i = upper-delay-falls e x z M u l (by≤ (e ∷ d ∷ M ∷ z ∷ []) (u ∷ []) (0≤pos M ⊠ gap≤ h ⊞ 0≤pos e ⊠ gap≤ (pos≤ i)) (λ v. search quote depth 20) tt)
+
+  -- what the rule misses at first is Q - v
+  rule-rising : pos 0 ≤ℤ v → Rising (λ n. adviceGain b Q v n M)
+  rule-rising h x z l = gain-rises b x z M Q v l
+      (≤ℤ-trans (pos≤ {m = missing b Q v x M} {n = max0 (Q -ℤ v) * M} (omega arith))
+      (by≤ (e ∷ d ∷ M ∷ max0 (Q -ℤ (u +ℤ pos e *ℤ pos d)) ∷ []) (u ∷ Q ∷ []) (0≤pos M ⊠ (gap≤ (≤ℤ-of-≡ (max0-same (Q -ℤ v) (gap≤ reached))) ⊞ gap≤ h)) (λ v. search quote depth 20) tt))
+
+  abbrev upward : ℕ → ℕ → ℤ
+  upward = continued b (delayHeight (pos e) u) d 1 (adviceGain b Q v)
+
+  pub upper-valley : Valley (λ n. continued b (delayHeight (pos e) u) d 1 (adviceGain b Q (u +ℤ pos e *ℤ pos d)) n M)
+  upper-valley = joined-valley b (delayHeight (pos e) u) d 1 (adviceGain b Q v) (λ m. gain-zero b m Q v) M delay-valley rule-valley
+      (⊎-elim (λ (h : v <ℤ pos 0). inl (delay-falling (<ℤ-≤ℤ h))) (λ (h : pos 0 ≤ℤ v). inr (rule-rising h)) (split< v (pos 0)))
+
+  upper-falling : Q ≤ℤ pos 0 → Falling (λ n. upward n M)
+  upper-falling h = joined-falling b (delayHeight (pos e) u) d 1 (adviceGain b Q v) (λ m. gain-zero b m Q v) M (delay-falling (≤ℤ-trans reached h)) (λ x z l. gain-sinks b x z M Q v h l)
+
+  upper-shape : Shape (λ n m. negℤ (upward n m)) [] (pos 0 <ℤ Q) M
+  upper-shape = ⊎-elim
+      (λ (t : pos 0 <ℤ Q). record {
+        marks = [];
+        places = λ x h. absurd h;
+        tail = λ _. t;
+        pieces = last-hill (λ x y z i l k. ⊎-elim (λ h. inl (negℤ-mono h)) (λ h. inr (negℤ-mono h)) (upper-valley x y z l k));
+      })
+      (λ (t : Q ≤ℤ pos 0). record {
+        marks = [];
+        places = λ x h. absurd h;
+        tail = λ h. absurd h;
+        pieces = last-rise (λ x z i l. negℤ-mono (upper-falling t x z l));
+      })
+      (split< (pos 0) Q)
+
+pub upper-scale : (s : SensedQuestion) (n m x : ℕ) → upperPath s (n * x) (m * x) ≡ pos x *ℤ pos x *ℤ upperPath s n m
+upper-scale s = continued-scale (s .«upper_strength») (delayHeight (pos (s .«delay_acceleration»)) (s .speed)) (s .delay) 1 (adviceGain (s .«upper_strength») (upperTarget s) (speedReached s)) (λ m. gain-zero (s .«upper_strength») m (upperTarget s) (speedReached s))
+    (λ n m x. delay-scale (pos (s .«delay_acceleration»)) n m x (s .speed)) (λ n m x. gain-scale (s .«upper_strength») n m x (upperTarget s) (speedReached s))
 
 -- ---- the two profiles
 pub path-divisor : (side : Side) (s : SensedQuestion) → Sized side s → (t : Instant) → Among t (pathInstants side s) → 0 < t .m
@@ -167,11 +204,11 @@ profile Upper s z = record {
   between-in = between-window s;
   height = λ n m. negℤ (upperPath s n m);
   edge = λ m. negℤ (upperEdge s m);
-  height-scale = λ n m x. turned-scale x (upperPath s (n * x) (m * x)) (upperPath s n m) (gain-scale (s .«upper_strength») n m x (upperTarget s) (s .speed));
+  height-scale = λ n m x. turned-scale x (upperPath s (n * x) (m * x)) (upperPath s n m) (upper-scale s n m x);
   edge-scale = λ m x. ring (s .«upper_strength» ∷ m ∷ x ∷ s .«half_height» ∷ []) (s .level ∷ []) (λ v. search quote depth 20) tt;
   mids = pathInstants Upper s;
   sinks = Approaches Upper s;
-  shape = λ M p f. upper-shape (s .«upper_strength») (upperTarget s) (s .speed) M;
+  shape = λ M p f. upper-shape (s .«upper_strength») (s .«delay_acceleration») (s .delay) M (s .speed) (upperTarget s) (maxℤ-right (s .«upper_target») (speedReached s));
   divisor = instants-divisor Upper s z;
 }
 
@@ -212,7 +249,7 @@ lower-reaches : (s : SensedQuestion) → Sizes s → s .target <ℤ pos 0 → lo
 unfolding delayHeight
 lower-reaches s z h =
     let rule = adviceGain (s .strength) (s .target) (u-d s) in
-    let f = delayHeight (s .«delay_acceleration») (s .speed) in
+    let f = delayHeight (negℤ (pos (s .«delay_acceleration»))) (s .speed) in
     let j = searchSeconds Lower in
     ≤ℤ-trans
     (≤ℤ-of-≡ (continued-after (s .strength) f (s .delay) 1 rule (λ m. gain-zero (s .strength) m (s .target) (u-d s)) (searchEnd Lower s) 1 (omega arith)
@@ -223,18 +260,25 @@ lower-reaches s z h =
     (λ v. search quote depth 20) tt)
 
 -- G × G is at most maxSpeedDifference × maxSpeedDifference × b
-upper-reaches : (b k : ℕ) (q u level : ℤ) → 1 ≤ b → pos 0 <ℤ q → max0 (q -ℤ u) ≤ maxSpeedDifference → level ≤ℤ pos maxHeight
-    → (pos 2 *ℤ pos b *ℤ pos 1 *ℤ pos 1 *ℤ (level -ℤ pos k)) ≤ℤ adviceGain b q u (searchSeconds Upper) 1
-upper-reaches b k q u level hb hq hg hl =
-    let g = maxSpeedDifference in
+upper-reaches : (s : SensedQuestion) → Sized Upper s → pos 0 <ℤ upperTarget s → upperEdge s 1 ≤ℤ upperPath s (searchEnd Upper s) 1
+unfolding delayHeight
+upper-reaches s (z, y) h =
+    let b = s .«upper_strength» in
+    let rule = adviceGain b (upperTarget s) (speedReached s) in
+    let f = delayHeight (pos (s .«delay_acceleration»)) (s .speed) in
     let j = searchSeconds Upper in
+    let most = maxSpeedDifference in
+    let g : max0 (upperTarget s -ℤ speedReached s) ≤ most =
+    maxℤ-above (s .«upper_target») (speedReached s) most (by≤ (s .«delay_acceleration» ∷ s .delay ∷ []) (s .speed ∷ s .«upper_target» ∷ []) (gap≤ (y .change)) (λ v. search quote depth 20) tt) in
     ≤ℤ-trans
-    (by≤ (b ∷ k ∷ max0 (q -ℤ u) ∷ []) (q ∷ level ∷ [])
-    (0≤pos (2 * b) ⊠ gap≤ hl ⊞ 0≤pos (2 * j * b) ⊠ gap< hq ⊞ 0≤pos (g * g) ⊠ gap≤ (pos≤ hb) ⊞ gap≤ (pos≤ hg) ⊠ 0≤pos (g + max0 (q -ℤ u)))
+    (by≤ (s .«upper_strength» ∷ s .«half_height» ∷ s .delay ∷ s .«delay_acceleration» ∷ max0 (upperTarget s -ℤ speedReached s) ∷ []) (s .speed ∷ s .level ∷ upperTarget s ∷ adviceGain (s .«upper_strength») (upperTarget s) (speedReached s) j 1 ∷ [])
+    (gap≤ (gain-at-least b j 1 (upperTarget s) (speedReached s))
+    ⊞ 0≤pos (2 * b) ⊠ (gap≤ (z .wh-hi) ⊞ 0≤pos (s .delay) ⊠ gap≤ (z .u-lo) ⊞ 0≤pos most ⊠ gap≤ (pos≤ (z .d-hi)) ⊞ 0≤pos j ⊠ gap< h)
+    ⊞ 0≤pos (most * most) ⊠ gap≤ (pos≤ (y .b-lo)) ⊞ gap≤ (pos≤ g) ⊠ 0≤pos (most + max0 (upperTarget s -ℤ speedReached s)))
     (λ v. search quote depth 20) tt)
-    (gain-at-least b j 1 q u)
+    (≤ℤ-of-≡ (sym (continued-after b f (s .delay) 1 rule (λ m. gain-zero b m (upperTarget s) (speedReached s)) (searchEnd Upper s) 1 (omega arith)
+    ∙ ap (λ (x : ℕ). pos b *ℤ f (s .delay * 1) 1 +ℤ pos 1 *ℤ rule x 1) {x = searchEnd Upper s - s .delay * 1} {y = j} (omega arith))))
 
 pub reaches-end : (side : Side) (s : SensedQuestion) → Sized side s → Approaches side s → NotBeyond side s (searchEnd side s) 1
 reaches-end Lower s z h = lower-reaches s z h
-reaches-end Upper s z h =
-    upper-reaches (s .«upper_strength») (s .«half_height») (upperTarget s) (s .speed) (s .level) (z .1 .b-lo) h (maxℤ-above (s .«upper_target») (s .speed) maxSpeedDifference (z .1 .change)) (z .0 .wh-hi)
+reaches-end Upper s z h = upper-reaches s z h

@@ -3,19 +3,19 @@
 use mathlib.Core.Logic.{_⊎_, inl, inr, ⊎-elim}
 use Prim.Native.Nat.{ℕ, _*_, _-_, _<_, _≤_}
 use native.Mathlib.Omega.{arith}
-use lib.IntN.{ℤ, pos, _*ℤ_}
+use lib.IntN.{ℤ, pos, negℤ, _*ℤ_}
 use lib.Signed.{_≤ℤ_, _<ℤ_}
 use Rattle.integers.proofs.Certificates.{split<}
-use Rattle.integers.proofs.Laws.{<ℤ-≤ℤ, ≤ℤ-trans, split≤}
+use Rattle.integers.proofs.Laws.{<ℤ-≤ℤ, ≤ℤ-trans, split≤, maxℤ-right}
 use Rattle.path.specs.declared.SensedQuestion.{SensedQuestion}
 use Rattle.path.specs.declared.Side.{Side}
 use Rattle.path.specs.declared.Side.the-variants.{Lower, Upper}
-use Rattle.path.specs.Paths.{adviceGain, delayHeight, u-d, lowerPath, upperTarget, upperPath}
+use Rattle.path.specs.Paths.{adviceGain, delayHeight, u-d, lowerPath, speedReached, upperTarget, upperPath}
 use Rattle.path.specs.Conflict.{NotBeyond}
 use Rattle.path.specs.inner.Sizes.{searchStart}
-use Rattle.path.proofs.AdviceRule.{missing, gain-rises, gain-falls, gain-zero, gain-sinks, delay-rises, delay-falls}
+use Rattle.path.proofs.AdviceRule.{gain-zero, gain-sinks, delay-rises, delay-falls}
 use Rattle.path.proofs.Continued.{before-keeps, after-keeps}
-use Rattle.path.proofs.SideProfiles.{Approaches}
+use Rattle.path.proofs.SideProfiles.{Approaches, upper-valley}
 
 module _ (s : SensedQuestion) where
   abbrev path : ℕ → ℤ
@@ -28,20 +28,17 @@ module _ (s : SensedQuestion) where
       (λ (h : (pos (s .«delay_acceleration») *ℤ pos j) ≤ℤ (s .speed *ℤ pos 1)). inr (kept 0 j (omega arith) l (delay-rises (s .«delay_acceleration») 0 j 1 (s .speed) (omega arith) h)))
       (split< (s .speed *ℤ pos 1) (pos (s .«delay_acceleration») *ℤ pos j))
     where
-      kept : (x z : ℕ) → x ≤ s .delay → z ≤ s .delay → delayHeight (s .«delay_acceleration») (s .speed) x 1 ≤ℤ delayHeight (s .«delay_acceleration») (s .speed) z 1 → path x ≤ℤ path z
-      kept x z i j h = before-keeps (s .strength) (delayHeight (s .«delay_acceleration») (s .speed)) (s .delay) 1 (adviceGain (s .strength) (s .target) (u-d s)) (λ m. gain-zero (s .strength) m (s .target) (u-d s)) 1 x z (omega arith) (omega arith) h
+      kept : (x z : ℕ) → x ≤ s .delay → z ≤ s .delay → delayHeight (negℤ (pos (s .«delay_acceleration»))) (s .speed) x 1 ≤ℤ delayHeight (negℤ (pos (s .«delay_acceleration»))) (s .speed) z 1 → path x ≤ℤ path z
+      kept x z i j h = before-keeps (s .strength) (delayHeight (negℤ (pos (s .«delay_acceleration»))) (s .speed)) (s .delay) 1 (adviceGain (s .strength) (s .target) (u-d s)) (λ m. gain-zero (s .strength) m (s .target) (u-d s)) 1 x z (omega arith) (omega arith) h
 
   -- from d on: down
   after-delay : s .target <ℤ pos 0 → (j k : ℕ) → s .delay ≤ j → j ≤ k → path k ≤ℤ path j
-  after-delay h j k l i = after-keeps (s .strength) (delayHeight (s .«delay_acceleration») (s .speed)) (s .delay) 1 (adviceGain (s .strength) (s .target) (u-d s)) (λ m. gain-zero (s .strength) m (s .target) (u-d s)) 1 k j (omega arith) (omega arith)
+  after-delay h j k l i = after-keeps (s .strength) (delayHeight (negℤ (pos (s .«delay_acceleration»))) (s .speed)) (s .delay) 1 (adviceGain (s .strength) (s .target) (u-d s)) (λ m. gain-zero (s .strength) m (s .target) (u-d s)) 1 k j (omega arith) (omega arith)
       (gain-sinks (s .strength) (j - s .delay * 1) (k - s .delay * 1) 1 (s .target) (u-d s) (<ℤ-≤ℤ h) (omega arith))
 
   -- the upper path is a valley
   upper-between : (j k : ℕ) → j ≤ k → (upperPath s j 1 ≤ℤ upperPath s 0 1) ⊎ (upperPath s j 1 ≤ℤ upperPath s k 1)
-  upper-between j k l = ⊎-elim
-      (λ (h : (upperTarget s *ℤ pos 1) <ℤ pos (missing (s .«upper_strength») (upperTarget s) (s .speed) j 1)). inl (gain-falls (s .«upper_strength») 0 j 1 (upperTarget s) (s .speed) (omega arith) (<ℤ-≤ℤ h)))
-      (λ (h : pos (missing (s .«upper_strength») (upperTarget s) (s .speed) j 1) ≤ℤ (upperTarget s *ℤ pos 1)). inr (gain-rises (s .«upper_strength») j k 1 (upperTarget s) (s .speed) l h))
-      (split< (upperTarget s *ℤ pos 1) (pos (missing (s .«upper_strength») (upperTarget s) (s .speed) j 1)))
+  upper-between j k l = upper-valley (s .«upper_strength») (s .«delay_acceleration») (s .delay) 1 (s .speed) (upperTarget s) (maxℤ-right (s .«upper_target») (speedReached s)) 0 j k (omega arith) l
 
 pub none-before : (side : Side) (s : SensedQuestion) → Approaches side s → ¬ NotBeyond side s 0 1 → ¬ NotBeyond side s (searchStart side s) 1 → (k : ℕ) → searchStart side s ≤ k → ¬ NotBeyond side s k 1 → (j : ℕ) → j ≤ k → ¬ NotBeyond side s j 1
 none-before Lower s h e₀ e₁ k l e j i c = ⊎-elim

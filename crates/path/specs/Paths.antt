@@ -1,10 +1,10 @@
--- The ownship's sensed heights (document 01, "Paths and conflict"), from the level that moves with the intruder (`Letters`). A time t is n/m seconds.
--- Since "each comparison at it is multiplied through by its divisors", a height f at n/m stands as 2 × a × m² × f on the lower side, 2 × b × m² × j on the
--- upper, which is whole.
+-- The ownship's sensed heights (document 01, "Paths and conflict"; document 02, "Two-sided with a slow pilot"), from the level that moves with the intruder
+-- (`Letters`). A time t is n/m seconds. Since "each comparison at it is multiplied through by its divisors", a height f at n/m stands as 2 × a × m² × f on the
+-- lower side, 2 × b × m² × j on the upper, which is whole.
 use mathlib.Core.Bool.{cond}
 use Prim.Native.Nat.{ℕ, _*_, _-_}
 use lib.Dec.{leb, ltb}
-use lib.IntN.{ℤ, pos, _+ℤ_, _-ℤ_, _*ℤ_}
+use lib.IntN.{ℤ, pos, negℤ, _+ℤ_, _-ℤ_, _*ℤ_}
 use Rattle.integers.specs.Extremes.{max0, maxℤ}
 use Rattle.path.specs.declared.SensedQuestion.{SensedQuestion}
 use Rattle.path.specs.Letters.{u, q, a, d, e, upper-q, b}
@@ -19,9 +19,10 @@ adviceGain strength target speed n m =
     (pos strength *ℤ (pos 2 *ℤ speed *ℤ pos n *ℤ pos m +ℤ pos strength *ℤ pos n *ℤ pos n))
     (pos 2 *ℤ pos strength *ℤ target *ℤ pos n *ℤ pos m -ℤ pos G *ℤ pos G *ℤ pos m *ℤ pos m)
 
--- The delay: "f = u × t − e × t²/2", times 2 × m²; acceleration is e, speed is u. It curves away from the advice.
-unfoldable pub delayHeight : ℕ → ℤ → ℕ → ℕ → ℤ
-delayHeight acceleration speed n m = pos 2 *ℤ speed *ℤ pos n *ℤ pos m -ℤ pos acceleration *ℤ pos n *ℤ pos n
+-- The delay: speed × t + acceleration × t²/2, times 2 × m²; speed is u. On the lower path acceleration is −e, against the advice: "f = u × t − e × t²/2". On the
+-- upper it is e: "The upper path accelerates by e towards the advice during the delay, u × t + e × t²/2" (document 02, "Two-sided with a slow pilot").
+unfoldable pub delayHeight : ℤ → ℤ → ℕ → ℕ → ℤ
+delayHeight acceleration speed n m = pos 2 *ℤ speed *ℤ pos n *ℤ pos m +ℤ acceleration *ℤ pos n *ℤ pos n
 
 -- A path of two parts: up to the second `end`, the height that `before` gives; then its height at `end` and what `after` adds in the time since. Each part
 -- comes on a scale of its own, and is multiplied by the number before it to bring both to one scale.
@@ -40,14 +41,23 @@ u-d question = u question -ℤ pos (e question) *ℤ pos (d question)
 abbrev pub lowerPath : SensedQuestion → ℕ → ℕ → ℤ
 lowerPath question =
     continued
-    (a question) (delayHeight (e question) (u question))
+    (a question) (delayHeight (negℤ (pos (e question))) (u question))
     (d question)
     1 (adviceGain (a question) (q question) (u-d question))
 
--- "with max(w × (upper target − vi), u) for q"
-abbrev pub upperTarget : SensedQuestion → ℤ
-upperTarget question = maxℤ (upper-q question) (u question)
+-- "the speed reached", u + e × d
+abbrev pub speedReached : SensedQuestion → ℤ
+speedReached question = u question +ℤ pos (e question) *ℤ pos (d question)
 
--- The upper path j: "the same rule from t = 0 with b for a"
+-- "max(w × (upper target − vi), u) for q", "with the speed reached for u"
+abbrev pub upperTarget : SensedQuestion → ℤ
+upperTarget question = maxℤ (upper-q question) (speedReached question)
+
+-- The upper path j: the delay up to d, "and then follows the upper rule from the height reached, with the speed reached for u"; the upper rule is "the same rule"
+-- "with b for a"
 abbrev pub upperPath : SensedQuestion → ℕ → ℕ → ℤ
-upperPath question = adviceGain (b question) (upperTarget question) (u question)
+upperPath question =
+    continued
+    (b question) (delayHeight (pos (e question)) (u question))
+    (d question)
+    1 (adviceGain (b question) (upperTarget question) (speedReached question))

@@ -4,7 +4,7 @@ use mathlib.Core.Bool.{Bool, true, false, cond}
 use Prim.Native.Nat.{_≤_}
 use native.Mathlib.Nat.{mul-le-mul}
 use native.Mathlib.Omega.{arith}
-use lib.IntN.{ℤ, pos, negsuc, _-ℤ_, natAbs}
+use lib.IntN.{ℤ, pos, negsuc, negℤ, _-ℤ_, natAbs}
 use mir.Syntax.{w64}
 use mir.Val.{toZ}
 use Rattle.limits.specs.Limits.{maxStrength, maxDelayAcceleration, maxDelay}
@@ -13,6 +13,7 @@ use Rattle.integers.proofs.Machine.{Reading, bounded-natural, bounded-word, bou
 use Rattle.instant.specs.declared.Instant.{Instant}
 use Rattle.instant.specs.inner.Sizes.{SizedInstant}
 use Rattle.path.specs.declared.SensedQuestion.{SensedQuestion}
+use Rattle.path.specs.declared.Side.the-variants.{Lower}
 use Rattle.path.specs.Letters.{u, q, a, d, e}
 use Rattle.path.specs.Paths.{delayHeight, u-d}
 use Rattle.path.specs.inner.Sizes.{maxSpeedAfterDelay, Sizes}
@@ -43,13 +44,13 @@ module _ (s : SensedQuestion) (z : Sizes s) where
 
   -- u_d, 2 × a × f_d and G
   abbrev pub read-speed-after : Reading (u-d s)
-  read-speed-after = bounded-absolute (u-d s) maxSpeedAfterDelay (after-delay-size s z)
+  read-speed-after = bounded-absolute (u-d s) maxSpeedAfterDelay (after-delay-size s z Lower)
 
   pub height-size : natAbs (heightAfterDelay s) ≤ mostHeightAfterDelay
   unfolding heightAfterDelay
   height-size =
       let a = strength in
-      let start = bounded-absolute (delayHeight (e s) (u s) (d s) 1) mostStart (start-size s z) in
+      let start = bounded-absolute (delayHeight (negℤ (pos (e s))) (u s) (d s) 1) mostStart (start-size s z Lower) in
       size (heightAfterDelay s) (search numbers depth 20) tt
 
   abbrev pub read-height : Reading (heightAfterDelay s)

@@ -89,14 +89,14 @@ agree s (p ∷ r ∷ x ∷ l) h o f = (
 
 module _ (s : SensedQuestion) where
   -- ---- the path before and after d
-  path-before : (n m : ℕ) → n ≤ d s * m → lowerPath s n m ≡ pos (a s) *ℤ delayHeight (e s) (u s) n m
-  path-before n m l = continued-before (a s) (delayHeight (e s) (u s)) (d s) 1 (adviceGain (a s) (q s) (u-d s)) (λ k. gain-zero (a s) k (q s) (u-d s)) n m l
+  path-before : (n m : ℕ) → n ≤ d s * m → lowerPath s n m ≡ pos (a s) *ℤ delayHeight (negℤ (pos (e s))) (u s) n m
+  path-before n m l = continued-before (a s) (delayHeight (negℤ (pos (e s))) (u s)) (d s) 1 (adviceGain (a s) (q s) (u-d s)) (λ k. gain-zero (a s) k (q s) (u-d s)) n m l
 
-  path-after : (n m : ℕ) → d s * m ≤ n → lowerPath s n m ≡ pos (a s) *ℤ delayHeight (e s) (u s) (d s * m) m +ℤ pos 1 *ℤ adviceGain (a s) (q s) (u-d s) (n - d s * m) m
-  path-after n m l = continued-after (a s) (delayHeight (e s) (u s)) (d s) 1 (adviceGain (a s) (q s) (u-d s)) (λ k. gain-zero (a s) k (q s) (u-d s)) n m l
+  path-after : (n m : ℕ) → d s * m ≤ n → lowerPath s n m ≡ pos (a s) *ℤ delayHeight (negℤ (pos (e s))) (u s) (d s * m) m +ℤ pos 1 *ℤ adviceGain (a s) (q s) (u-d s) (n - d s * m) m
+  path-after n m l = continued-after (a s) (delayHeight (negℤ (pos (e s))) (u s)) (d s) 1 (adviceGain (a s) (q s) (u-d s)) (λ k. gain-zero (a s) k (q s) (u-d s)) n m l
 
   -- ---- each piece is the path between its rule's two ends; after d, n is k + d × m
-  delay-identity : (n m : ℕ) → pieceHeight (delayPiece s) n m ≡ pos (a s) *ℤ delayHeight (e s) (u s) n m
+  delay-identity : (n m : ℕ) → pieceHeight (delayPiece s) n m ≡ pos (a s) *ℤ delayHeight (negℤ (pos (e s))) (u s) n m
   unfolding delayHeight
   delay-identity n m = ring (a s ∷ e s ∷ n ∷ m ∷ []) (u s ∷ []) (λ v. search quote depth 20) tt
 
@@ -104,12 +104,12 @@ module _ (s : SensedQuestion) where
   delay-follows n m l = delay-identity n m ∙ sym (path-before n m l)
 
   arc-identity : (k m : ℕ) → pieceHeight (arcPiece s) (k + d s * m) m
-      ≡ pos (a s) *ℤ delayHeight (e s) (u s) (d s * m) m +ℤ pos 1 *ℤ (pos (a s) *ℤ (pos 2 *ℤ u-d s *ℤ pos k *ℤ pos m +ℤ pos (a s) *ℤ pos k *ℤ pos k))
+      ≡ pos (a s) *ℤ delayHeight (negℤ (pos (e s))) (u s) (d s * m) m +ℤ pos 1 *ℤ (pos (a s) *ℤ (pos 2 *ℤ u-d s *ℤ pos k *ℤ pos m +ℤ pos (a s) *ℤ pos k *ℤ pos k))
   unfolding heightAfterDelay delayHeight
   arc-identity k m = ring (a s ∷ d s ∷ e s ∷ k ∷ m ∷ []) (u s ∷ []) (λ v. search quote depth 20) tt
 
   straight-identity : (k m : ℕ) → pieceHeight (lastPiece s) (k + d s * m) m
-      ≡ pos (a s) *ℤ delayHeight (e s) (u s) (d s * m) m +ℤ pos 1 *ℤ (pos 2 *ℤ pos (a s) *ℤ q s *ℤ pos k *ℤ pos m -ℤ pos (missingSpeed s) *ℤ pos (missingSpeed s) *ℤ pos m *ℤ pos m)
+      ≡ pos (a s) *ℤ delayHeight (negℤ (pos (e s))) (u s) (d s * m) m +ℤ pos 1 *ℤ (pos 2 *ℤ pos (a s) *ℤ q s *ℤ pos k *ℤ pos m -ℤ pos (missingSpeed s) *ℤ pos (missingSpeed s) *ℤ pos m *ℤ pos m)
   unfolding heightAfterDelay delayHeight
   straight-identity k m = ring (a s ∷ d s ∷ e s ∷ missingSpeed s ∷ k ∷ m ∷ []) (u s ∷ q s ∷ []) (λ v. search quote depth 20) tt
 
@@ -118,10 +118,10 @@ module _ (s : SensedQuestion) where
     split-time = omega arith
 
     gained : {g : ℤ} (p : WholePiece) → adviceGain (a s) (q s) (u-d s) (n - d s * m) m ≡ g
-        → pieceHeight p ((n - d s * m) + d s * m) m ≡ pos (a s) *ℤ delayHeight (e s) (u s) (d s * m) m +ℤ pos 1 *ℤ g → pieceHeight p n m ≡ lowerPath s n m
+        → pieceHeight p ((n - d s * m) + d s * m) m ≡ pos (a s) *ℤ delayHeight (negℤ (pos (e s))) (u s) (d s * m) m +ℤ pos 1 *ℤ g → pieceHeight p n m ≡ lowerPath s n m
     gained p f i =
         ap (λ (k : ℕ). pieceHeight p k m) split-time ∙ i
-        ∙ ap (λ (z : ℤ). pos (a s) *ℤ delayHeight (e s) (u s) (d s * m) m +ℤ pos 1 *ℤ z) (sym f)
+        ∙ ap (λ (z : ℤ). pos (a s) *ℤ delayHeight (negℤ (pos (e s))) (u s) (d s * m) m +ℤ pos 1 *ℤ z) (sym f)
         ∙ sym (path-after n m l)
 
     arc-follows : 0 < a s → a s * (n - d s * m) ≤ missingSpeed s * m → pieceHeight (arcPiece s) n m ≡ lowerPath s n m

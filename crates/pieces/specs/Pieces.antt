@@ -17,7 +17,7 @@ use Rattle.pieces.specs.declared.WholePiece.{WholePiece}
 -- f_d, times 2 × a
 unfoldable pub heightAfterDelay : SensedQuestion → ℤ
 unfolding delayHeight
-heightAfterDelay s = pos (a s) *ℤ delayHeight (e s) (u s) (d s) 1
+heightAfterDelay s = pos (a s) *ℤ delayHeight (negℤ (pos (e s))) (u s) (d s) 1
 
 -- "G = max(0, q − u_d)"
 abbrev pub missingSpeed : SensedQuestion → ℕ

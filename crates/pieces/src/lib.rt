@@ -8,6 +8,7 @@ use conflict::speed_after_delay;
 use instant::Instant;
 use instant::no_later;
 use path::SensedQuestion;
+use path::Side;
 use window::positive_part;
 
 // A piece of path: from when it holds, and the coefficients of t², t and 1, times 2·a.
@@ -36,7 +37,7 @@ pub fn missing_speed(s: SensedQuestion) -> u64
     ensures { λ r. ⌜ r ≡ missingSpeed s ⌝ }
 {
     let q = s.target;
-    let u_d = speed_after_delay(s);
+    let u_d = speed_after_delay(Side::Lower, s);
     positive_part(q - u_d)
 }
 
@@ -60,7 +61,7 @@ pub fn arc_piece(s: SensedQuestion) -> WholePiece
     requires { ⌜ Sizes s ⌝ }
     ensures { λ r. ⌜ r ≡ arcPiece s ⌝ }
 {
-    let u_d = speed_after_delay(s);
+    let u_d = speed_after_delay(Side::Lower, s);
     let height = height_after_delay(s);
     let a = s.strength as i64;
     let d = s.delay as i64;

@@ -32,7 +32,7 @@ module _ (c p k a e d : ℕ) (r h u q : ℤ) where
   Says₅ f = Says (f (pos c) (pos p) (pos k) (pos a) (pos e) (pos d) r h u q)
 
   abbrev Delay : ℕ → ℕ → ℤ
-  Delay = delayHeight e u
+  Delay = delayHeight (negℤ (pos e)) u
 
   abbrev level : ℤ
   level = h +ℤ pos 2 *ℤ pos k
@@ -107,7 +107,7 @@ module _ (c p k a e d : ℕ) (r h u q : ℤ) where
   Joined = Within c p r d 1 → Beyond Delay level d 1
 
   scale : (n m x : ℕ) → Delay (n * x) (m * x) ≡ pos x *ℤ pos x *ℤ Delay n m
-  scale n m x = delay-scale e n m x u
+  scale n m x = delay-scale (negℤ (pos e)) n m x u
 
   module _ (f : Cases) (joined : Joined) (n m : ℕ) (pm : 0 < m) (w : Until c p d r n m) where
     -- the window starts before d
@@ -174,7 +174,7 @@ module _ (c p k a e d : ℕ) (pa : 0 < a) (r h u q : ℤ) where
       subst (λ (x : ℤ). Says (L-expl⁻¹ (pos c) (pos p) (pos k) (pos a) (r -ℤ of rᵈ) (h -ℤ of 2whᵈ) (of uᵈ) q) ↔ After c p k a e r h u q x) (max-is (pos d))
       (figure-3 c p k a pa (r -ℤ of rᵈ) (h -ℤ of 2whᵈ) (of uᵈ) q)
 
-  pub figure-5 : Says (D-explᵈ (pos c) (pos p) (pos k) (pos a) (pos e) (pos d) r h u q) ↔ (Clear (Until c p d r) (delayHeight e u) (h +ℤ pos 2 *ℤ pos k) × After c p k a e r h u q (pos d))
+  pub figure-5 : Says (D-explᵈ (pos c) (pos p) (pos k) (pos a) (pos e) (pos d) r h u q) ↔ (Clear (Until c p d r) (delayHeight (negℤ (pos e)) u) (h +ℤ pos 2 *ℤ pos k) × After c p k a e r h u q (pos d))
   figure-5 = (
     λ t. let rule = after .0 (t .1) in (beyond c p k a e d r h u q (t .0) (joined rule), rule),
     λ clear. (bounds c p k a e d r h u q (clear .0), after .1 (clear .1)),

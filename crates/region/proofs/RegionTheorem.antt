@@ -35,7 +35,7 @@ use Rattle.region.proofs.Delayed.{Until, After, figure-5}
 
 module _ (s : SensedQuestion) (pa : 0 < a s) (endless : s .limit ≡ Unlimited) where
   abbrev Delay : ℕ → ℕ → ℤ
-  Delay = delayHeight (e s) (u s)
+  Delay = delayHeight (negℤ (pos (e s))) (u s)
 
   abbrev Rule : ℕ → ℕ → ℤ
   Rule = adviceGain (a s) (q s) (u-d s)
@@ -85,7 +85,7 @@ module _ (s : SensedQuestion) (pa : 0 < a s) (endless : s .limit ≡ Unlimited) 
   clear-before : (n m : ℕ) → n ≤ d s * m → (¬ Conflict Lower s n m) ↔ (Within (c s) (p s) (r s) n m → Beyond Delay delay-level n m)
   clear-before n m l = unreached n m (window-is n m) (pos (a s)) (pos< pa)
       (modulo (pos 1) (continued-before (a s) Delay (d s) 1 Rule (λ m. gain-zero (a s) m (q s) (u-d s)) n m l)
-      (ring (a s ∷ k s ∷ m ∷ []) (wh s ∷ delayHeight (e s) (u s) n m ∷ lowerPath s n m ∷ []) (λ v. search quote depth 20) tt))
+      (ring (a s ∷ k s ∷ m ∷ []) (wh s ∷ delayHeight (negℤ (pos (e s))) (u s) n m ∷ lowerPath s n m ∷ []) (λ v. search quote depth 20) tt))
 
   -- x/m after d, the rule's path
   path-after : (x m : ℕ) → lowerPath s (d s * m + x) m ≡ pos (a s) *ℤ Delay (d s * m) m +ℤ pos 1 *ℤ Rule x m

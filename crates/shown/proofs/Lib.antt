@@ -4,3 +4,4 @@ pub mod OpenWindow
 pub mod RulePicks
 pub mod InstantsInReach
 pub mod CodeTurning
+pub mod WithoutDelay

@@ -35,7 +35,7 @@ fn turning_instant(s: SensedQuestion) -> Moment
     }
     let a = s.strength;
     let d = s.delay;
-    let speed = speed_after_delay(s);
+    let speed = speed_after_delay(Side::Lower, s);
     let back = positive_part(-speed);
     Moment::At(Instant {
         n: d * a + back,
@@ -69,7 +69,7 @@ fn search_end(side: Side, s: SensedQuestion) -> u64
 {
     match side {
         Side::Lower => s.delay + 1680000,
-        Side::Upper => 200480000,
+        Side::Upper => s.delay + 201680000,
     }
 }
 

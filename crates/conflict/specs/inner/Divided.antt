@@ -3,14 +3,14 @@
 -- not fit 64 bits. The two sides for an arc share the strength, which leaves 2 × m²; those for a straight share m, which leaves 2 × a × m.
 use mathlib.Core.Bool.{Bool}
 use Prim.Native.Nat.{ℕ}
-use lib.IntN.{ℤ, pos, _+ℤ_, _-ℤ_, _*ℤ_}
+use lib.IntN.{ℤ, pos, negℤ, _+ℤ_, _-ℤ_, _*ℤ_}
 use lib.Signed.{leZ}
 use Rattle.integers.specs.Extremes.{max0}
 use Rattle.path.specs.declared.SensedQuestion.{SensedQuestion}
 use Rattle.path.specs.declared.Side.{Side}
 use Rattle.path.specs.declared.Side.the-variants.{Lower, Upper}
 use Rattle.path.specs.Letters.{k, wh, u, q, a, d, e, b}
-use Rattle.path.specs.Paths.{adviceGain, delayHeight, u-d, upperTarget}
+use Rattle.path.specs.Paths.{adviceGain, delayHeight, u-d, speedReached, upperTarget}
 use Rattle.conflict.specs.declared.AdviceRule.{AdviceRule}
 
 -- A height is "not strictly beyond" the puck's edge: lower, at it or below; upper, at it or above.
@@ -18,15 +18,38 @@ abbrev pub heightNotBeyond : Side → ℤ → ℤ → Bool
 heightNotBeyond Lower height edge = leZ height edge
 heightNotBeyond Upper height edge = leZ edge height
 
--- The delay, u × t − e × t²/2, against w × h + k, times 2 × m²
-abbrev pub delayNotBeyond : SensedQuestion → ℕ → ℕ → Bool
-delayNotBeyond s n m = heightNotBeyond Lower (delayHeight (e s) (u s) n m) (pos 2 *ℤ pos m *ℤ pos m *ℤ (wh s +ℤ pos (k s)))
+-- The acceleration during the delay, and the speed at its end: lower, u_d; upper, the speed reached
+abbrev pub bend : Side → SensedQuestion → ℤ
+bend Lower s = negℤ (pos (e s))
+bend Upper s = pos (e s)
 
--- The advice rule of a side: lower, from d on, at the height f_d and the speed u_d; upper, from 0 on, at the height 0 and the speed u. Its edge is twice
--- the height of the puck's edge, w × h + k or w × h − k, above the height where the rule begins.
+abbrev pub speedAfterDelay : Side → SensedQuestion → ℤ
+speedAfterDelay Lower s = u-d s
+speedAfterDelay Upper s = speedReached s
+
+-- The height of the puck's edge: w × h + k or w × h − k
+abbrev pub edgeHeight : Side → SensedQuestion → ℤ
+edgeHeight Lower s = wh s +ℤ pos (k s)
+edgeHeight Upper s = wh s -ℤ pos (k s)
+
+-- The delay, u × t − e × t²/2 or u × t + e × t²/2, against the edge, times 2 × m²
+abbrev pub delayNotBeyond : Side → SensedQuestion → ℕ → ℕ → Bool
+delayNotBeyond side s n m = heightNotBeyond side (delayHeight (bend side s) (u s) n m) (pos 2 *ℤ pos m *ℤ pos m *ℤ edgeHeight side s)
+
+-- The advice rule of a side, from d on, at the height and the speed there. Its edge is twice the height of the puck's edge above the height where the rule begins.
+abbrev pub strengthOf : Side → SensedQuestion → ℕ
+strengthOf Lower s = a s
+strengthOf Upper s = b s
+
+abbrev pub targetOf : Side → SensedQuestion → ℤ
+targetOf Lower s = q s
+targetOf Upper s = upperTarget s
+
+abbrev pub ruleEdge : Side → SensedQuestion → ℤ
+ruleEdge side s = pos 2 *ℤ edgeHeight side s -ℤ delayHeight (bend side s) (u s) (d s) 1
+
 abbrev pub ruleOf : Side → SensedQuestion → AdviceRule
-ruleOf Lower s = record { strength = a s; target = q s; speed = u-d s; edge = pos 2 *ℤ (wh s +ℤ pos (k s)) -ℤ delayHeight (e s) (u s) (d s) 1 }
-ruleOf Upper s = record { strength = b s; target = upperTarget s; speed = u s; edge = pos 2 *ℤ (wh s -ℤ pos (k s)) }
+ruleOf side s = record { strength = strengthOf side s; target = targetOf side s; speed = speedAfterDelay side s; edge = ruleEdge side s }
 
 -- The rule against its edge n/m after it begins, undivided: times 2 × a × m²
 abbrev pub ruleNotBeyond : Side → AdviceRule → ℕ → ℕ → Bool

@@ -8,7 +8,7 @@ use Rattle.path.specs.declared.Side.the-variants.{Lower, Upper}
 use Rattle.path.specs.inner.Sizes.{maxSpeedDifference, maxSpeedAfterDelay}
 use Rattle.conflict.specs.declared.AdviceRule.{AdviceRule}
 
--- twice the height f_d, 2 × u × d − e × d², at most
+-- twice the height at the delay's end, 2 × u × d − e × d² or 2 × u × d + e × d², at most
 abbrev pub mostStart : ℕ
 mostStart = 2 * maxSpeedDifference * maxDelay + maxDelayAcceleration * maxDelay * maxDelay
 
@@ -19,13 +19,13 @@ mostEdge = 2 * (maxHeight + maxHalfHeight) + mostStart
 pub record RuleSizes (rule : AdviceRule) : Type 0 where
   pub strength-lo : minStrength ≤ rule .strength
   pub strength-hi : rule .strength ≤ maxStrength
-  pub target-hi : natAbs (rule .target) ≤ maxSpeedDifference
+  pub target-hi : natAbs (rule .target) ≤ maxSpeedAfterDelay
   pub speed-hi : natAbs (rule .speed) ≤ maxSpeedAfterDelay
   pub edge-hi : natAbs (rule .edge) ≤ mostEdge
 
--- G at most: the upper rule, which is looked at later, misses less speed
+-- G at most: of any rule of these sizes; the upper rule, which is looked at later, misses less speed
 abbrev pub mostMissing : Side → ℕ
-mostMissing Lower = maxSpeedDifference + maxSpeedAfterDelay
+mostMissing Lower = maxSpeedAfterDelay + maxSpeedAfterDelay
 mostMissing Upper = maxSpeedDifference
 
 -- a × n² at most, while n/m is before G/a: then a × n is below G × m

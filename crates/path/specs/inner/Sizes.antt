@@ -20,7 +20,7 @@ LimitSize (Upto L) = L ≤ maxLimit
 abbrev pub maxSpeedDifference : ℕ
 maxSpeedDifference = maxSpeed + maxSpeed
 
--- u_d = u − e × d
+-- u_d = u − e × d, and the speed reached, u + e × d
 abbrev pub maxSpeedAfterDelay : ℕ
 maxSpeedAfterDelay = maxSpeedDifference + maxDelayAcceleration * maxDelay
 
@@ -55,15 +55,15 @@ abbrev pub Sized : Side → SensedQuestion → Type 0
 Sized Lower s = Sizes s
 Sized Upper s = Sizes s × UpperSizes s
 
--- The seconds that a search needs at most: chosen, and enough for the limits (`reaches-end`)
+-- The seconds that a search needs at most after d: chosen, and enough for the limits (`reaches-end`)
 abbrev pub searchSeconds : Side → ℕ
 searchSeconds Lower = 1680000
-searchSeconds Upper = 200480000
+searchSeconds Upper = 201680000
 
 -- The instants that the judge looks at: window ends, d, the turning instant, and the whole seconds of a search
 abbrev pub farthest : Side → ℕ
 farthest Lower = maxDistance + maxRadius
-farthest Upper = searchSeconds Upper
+farthest Upper = maxDelay + searchSeconds Upper
 
 pub record InReach (side : Side) (n m : ℕ) : Type 0 where
   pub n-hi : n ≤ farthest side
@@ -77,5 +77,4 @@ searchStart Lower s = d s
 searchStart Upper s = 0
 
 abbrev pub searchEnd : Side → SensedQuestion → ℕ
-searchEnd Lower s = d s + searchSeconds Lower
-searchEnd Upper s = searchSeconds Upper
+searchEnd side s = d s + searchSeconds side

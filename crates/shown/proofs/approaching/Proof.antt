@@ -4,7 +4,7 @@ use borrow.Author.Needs.{needs}
 use Rattle.integers.proofs.Machine.{bounded, bounded-absolute, equal-to, plain-terms, plain}
 use Rattle.path.specs.declared.Side.{Side}
 use Rattle.path.specs.Paths.{upperTarget}
-use Rattle.path.specs.inner.Sizes.{maxSpeedDifference, Sized}
+use Rattle.path.specs.inner.Sizes.{maxSpeedDifference, maxSpeedAfterDelay, Sized}
 use Rattle.conflict.proofs.Fields.{upper-target-size}
 use Rattle.shown.specs.TimeShown.{approaches}
 use Rattle.shown.proofs.approaching.Statement.{statement}
@@ -34,7 +34,7 @@ returns-2 c =
     let z = e .before .before in
     let s = z .args .s in
     let sizes = subst (λ (side : Side). Sized side s) (e .enum-told2 .given .1) (z .pre) in
-    let q = equal-to (c .upper-target .ensures) (bounded-absolute (upperTarget s) maxSpeedDifference (upper-target-size s sizes)) in
+    let q = equal-to (c .upper-target .ensures) (bounded-absolute (upperTarget s) maxSpeedAfterDelay (upper-target-size s sizes)) in
     plain (search plain-terms depth 20) tt ∙ ap (λ (side : Side). approaches side s) (sym (e .enum-told2 .given .1))
 
 pub approaching-spec : {M : Type 1} → statement M

@@ -19,7 +19,7 @@ returns : tie.Need-returns
 returns c = sym (ap (λ (side : Side). searchEnd side (c .before .before .before .args .s)) (c .before .enum-told .given .1))
 
 returns-2 : tie.Need-returns-2
-returns-2 c = search needs
+returns-2 c = sym (ap (λ (side : Side). searchEnd side (c .before .before .before .args .s)) (c .before .enum-told2 .given .1))
 
 pub search-end-spec : {M : Type 1} → statement M
-search-end-spec = tie.close (tie.spec enum-told add-result enum-told-2 returns returns-2)
+search-end-spec = tie.close (tie.spec enum-told add-result enum-told-2 (λ c. search needs) returns returns-2)
