@@ -63,7 +63,7 @@ module _ (s : SensedQuestion) (l : List Stretch) (obeys : Obeys s l) (m : ℕ) (
   -- ---- up to the end of the delay
   record Early (n : ℕ) : Type 0 where
     keeps : (u s *ℤ pos m -ℤ pos (e s) *ℤ pos n) ≤ℤ speed n
-    above : delayHeight (e s) (u s) n m ≤ℤ height n
+    above : delayHeight (negℤ (pos (e s))) (u s) n m ≤ℤ height n
 
   early : (n : ℕ) → n ≤ d s * m → n ≤ duration l * m → Early n
   unfolding delayHeight
@@ -101,7 +101,7 @@ module _ (s : SensedQuestion) (l : List Stretch) (obeys : Obeys s l) (m : ℕ) (
   gained i = adviceGain (a s) (q s) (u-d s) i m
 
   abbrev start : ℤ
-  start = pos (a s) *ℤ delayHeight (e s) (u s) (d s * m) m
+  start = pos (a s) *ℤ delayHeight (negℤ (pos (e s))) (u s) (d s * m) m
 
   record Late (i : ℕ) : Type 0 where
     keeps : (q s *ℤ pos m -ℤ pos (lost i)) ≤ℤ speed (d s * m + i)
@@ -114,7 +114,7 @@ module _ (s : SensedQuestion) (l : List Stretch) (obeys : Obeys s l) (m : ℕ) (
       record {
         keeps = rw same (by≤ (m ∷ a s ∷ d s ∷ e s ∷ max0 (q s -ℤ u-d s) ∷ lost 0 ∷ []) (u s ∷ q s ∷ speed (d s * m) ∷ [])
             (gap≤ (h .keeps) ⊞ gap≤ (max0-ge (q s -ℤ u-d s)) ⊠ 0≤pos m ⊞ gap≤ (pos≤ {m = max0 (q s -ℤ u-d s) * m} {n = lost 0} (omega arith))) (λ z. search quote depth 20) tt);
-        above = rw (same, gain-zero (a s) m (q s) (u-d s)) (by≤ (a s ∷ []) (delayHeight (e s) (u s) (d s * m) m ∷ height (d s * m) ∷ []) (0≤pos (a s) ⊠ gap≤ (h .above)) (λ z. search quote depth 20) tt);
+        above = rw (same, gain-zero (a s) m (q s) (u-d s)) (by≤ (a s ∷ []) (delayHeight (negℤ (pos (e s))) (u s) (d s * m) m ∷ height (d s * m) ∷ []) (0≤pos (a s) ⊠ gap≤ (h .above)) (λ z. search quote depth 20) tt);
       }
 
   late-step : (i : ℕ) → d s * m + i < duration l * m → Late i → Late (suc i)
@@ -122,7 +122,7 @@ module _ (s : SensedQuestion) (l : List Stretch) (obeys : Obeys s l) (m : ℕ) (
       let n = d s * m + i in
       let next : d s * m + suc i ≡ suc n = omega arith in
       let gain : start +ℤ gained (suc i) ≡ (start +ℤ gained i) +ℤ pos 2 *ℤ pos (a s) *ℤ q s *ℤ pos m +ℤ pos (lost (suc i)) *ℤ pos (lost (suc i)) -ℤ pos (lost i) *ℤ pos (lost i) =
-      modulo (pos 1) (gain-step (a s) i m (q s) (u-d s)) (ring (a s ∷ m ∷ lost i ∷ lost (suc i) ∷ []) (delayHeight (e s) (u s) (d s * m) m ∷ gained i ∷ gained (suc i) ∷ q s ∷ []) (λ z. search quote depth 20) tt) in
+      modulo (pos 1) (gain-step (a s) i m (q s) (u-d s)) (ring (a s ∷ m ∷ lost i ∷ lost (suc i) ∷ []) (delayHeight (negℤ (pos (e s))) (u s) (d s * m) m ∷ gained i ∷ gained (suc i) ∷ q s ∷ []) (λ z. search quote depth 20) tt) in
       ⊎-elim
       (λ (strong : pos (a s) ≤ℤ force n). record {
         keeps = rw (next, speed-step (u s) l n m j) (strong-speed (a s) m (lost i) (lost (suc i)) (q s) (speed n) (force n) (h .keeps) strong (missing-kept (a s) i m (q s) (u-d s)));
@@ -143,7 +143,7 @@ module _ (s : SensedQuestion) (l : List Stretch) (obeys : Obeys s l) (m : ℕ) (
   -- ---- f ≤ y at every rational time up to the flight's end; f stands times 2*a*m², y times 2*m²
   pub above-lower : (n : ℕ) → n ≤ duration l * m → lowerPath s n m ≤ℤ (pos (a s) *ℤ heightAt (u s) l n m)
   above-lower n j =
-      let f = delayHeight (e s) (u s) in
+      let f = delayHeight (negℤ (pos (e s))) (u s) in
       let g = adviceGain (a s) (q s) (u-d s) in
       let g-zero : (z : ℕ) → g 0 z ≡ pos 0 = λ z. gain-zero (a s) z (q s) (u-d s) in
       ⊎-elim
