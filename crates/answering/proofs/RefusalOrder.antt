@@ -1,7 +1,6 @@
--- "Coded: 7, 8, 9, 6. Free: 7, 4, 5, 6": in every state that a sheet can reach, a question's refusal is the first that its list of tests gives. Assumes nothing.
+-- "Coded: 7, 8, 9, 6." Free: 7, 4, 5, 14, 15, 16, 6. In every state that a sheet can reach, a question's refusal is the first that its list of tests gives. Assumes nothing.
 use mathlib.Core.Path.{_≡_, refl, sym, ap, _∙_}
 use mathlib.Core.Bool.{Bool, true, false, cond, _&&_, _||_}
-use mathlib.Core.List.{List, [], _∷_}
 use mathlib.Core.Logic.{⊎-elim}
 use Prim.Native.Nat.{ℕ, _<_}
 use native.Mathlib.Omega.{arith}
@@ -26,7 +25,7 @@ use Rattle.question.specs.declared.Checked.{Checked}
 use Rattle.question.specs.declared.Checked.the-variants.{Accepted, Refused}
 use Rattle.verdict.specs.declared.Verdict.{Verdict}
 use Rattle.limits.specs.Limits.{distanceWithin, heightWithin, closingSpeedWithin, maxSpeed, speedWithin, minStrength, maxStrength, strengthWithin, maxDelay, delayWithin}
-use Rattle.question.specs.Refusals.{isNumber, encounterWithin, puckWithin, delayAccelerationWithin, sidesKnown, adviceWithin, timesWithin, limitAllowed, Check, check, firstRefusal, refusal}
+use Rattle.question.specs.Refusals.{isNumber, encounterWithin, puckWithin, delayAccelerationWithin, sidesKnown, targetsWithin, strengthsWithin, timesWithin, limitAllowed, firstRefusal, questionChecks, refusal}
 use Rattle.sensed.specs.Sensed.{sensedQuestion}
 use Rattle.coded.specs.Coded.{senseNumber, instructed, asked, codedQuestion}
 use Rattle.verdict.specs.Verdicts.{verdict}
@@ -54,10 +53,7 @@ fails-right : (a : Bool) {b : Bool} → b ≡ false → a && b ≡ false
 fails-right true e = e
 fails-right false e = refl
 
--- ---- the plain judge, where the encounter and the settings are within their limits: 4, 5, 6
-abbrev questionChecks : Question → List Check
-questionChecks z = check 4 (sidesKnown z) ∷ check 5 (adviceWithin z) ∷ check 6 (timesWithin z) ∷ []
-
+-- ---- the plain judge, where the encounter and the settings are within their limits: the question's own numbers
 refused-is : (k : Checked) (v : Verdict) → refusalIn (checkedAnswer k v) ≡ k
 refused-is Checked.Accepted v = refl
 refused-is (Checked.Refused n) v = refl
@@ -69,7 +65,7 @@ module _ (x : Encounter) (y : Settings) (met : T (encounterWithin x)) (puck : T 
       refused-is (refusal x y z) (verdict z (sensedQuestion x y z))
       ∙ picks-yes (encounterWithin x) _ _ (truth (encounterWithin x) met) ∙ picks-yes (puckWithin y) _ _ (truth (puckWithin y) puck) ∙ picks-yes (delayAccelerationWithin y) _ _ (truth (delayAccelerationWithin y) acceleration)
 
-  -- ---- a judged code passes 4 and 5, and its delay is within limits: 6 only through its limit
+  -- ---- a judged code passes 4, 5 and 14 to 16, and its delay is within limits: 6 only through its limit
   own-speed : Between (negℤ (pos maxSpeed)) (pos maxSpeed) (x .speed)
   own-speed =
       let r = distanceWithin (x .distance) in
@@ -94,8 +90,11 @@ module _ (x : Encounter) (y : Settings) (met : T (encounterWithin x)) (puck : T 
     strength-passes : strengthWithin (pos (i .strength)) ≡ true
     strength-passes = both (le-leb minStrength (i .strength) (limits .strength-from)) (le-leb (i .strength) maxStrength (limits .strength-to))
 
-    advice-passes : adviceWithin (instructed i (x .speed) limit) ≡ true
-    advice-passes = both (both target-passes strength-passes) refl
+    targets-pass : targetsWithin (instructed i (x .speed) limit) ≡ true
+    targets-pass = both target-passes refl
+
+    strengths-pass : strengthsWithin (instructed i (x .speed) limit) ≡ true
+    strengths-pass = both strength-passes refl
 
     delay-passes : delayWithin (pos (i .delay)) ≡ true
     delay-passes = both (le-leb 0 (i .delay) (omega arith)) (le-leb (i .delay) maxDelay (limits .delay-to))
@@ -106,7 +105,7 @@ module _ (x : Encounter) (y : Settings) (met : T (encounterWithin x)) (puck : T 
     judged-order : refusalIn (answer x y (instructed i (x .speed) limit)) ≡ cond (limitAllowed (instructed i (x .speed) limit)) Accepted (Refused 6)
     judged-order =
         let z = instructed i (x .speed) limit in
-        plain-order z ∙ picks-yes (sidesKnown z) _ _ sides-pass ∙ picks-yes (adviceWithin z) _ _ advice-passes ∙ ap (λ (b : Bool). cond b Accepted (Refused 6)) times-by-limit
+        plain-order z ∙ picks-yes (sidesKnown z) _ _ sides-pass ∙ picks-yes (targetsWithin z) _ _ targets-pass ∙ picks-yes (strengthsWithin z) _ _ strengths-pass ∙ ap (λ (b : Bool). cond b Accepted (Refused 6)) times-by-limit
 
   asked-order : (code : ℕ) (limit : ℤ) (a : Advised) → ((i : Instruction) → a ≡ Advised.Judged i → InLimits i) → Standing code a
       → refusalIn (askedAnswer x y (asked a (x .speed) limit)) ≡ firstRefusal (codedChecks (Present x) code limit)
@@ -133,7 +132,7 @@ coded-from (Present x) y met puck acceleration code limit h =
     asked-order x y met puck acceleration code limit (advisedOf code) (in-limits code h) (standing code h)
 
 module _ (st : State) (w : StoredWithin st) where
-  -- "Free: 7, 4, 5, 6."
+  -- a free question: 7, 4, 5, 14, 15, 16, 6
   pub free-order : (z : Question) → refusalIn (freeAnswer (st .encounter) (st .settings) z) ≡ firstRefusal (freeChecks (st .encounter) z)
   free-order z = free-from (st .encounter) (st .settings) (w .encounter) (w .puck) (w .acceleration) z
 

@@ -1,4 +1,4 @@
--- What a record is answered, and the order of its refusals: "Coded: 7, 8, 9, 6. Free: 7, 4, 5, 6."
+-- What a record is answered, and the order of its refusals.
 use mathlib.Core.Bool.{Bool, true, false, cond, _&&_, _||_}
 use mathlib.Core.List.{List, [], _∷_}
 use Prim.Native.Nat.{ℕ}
@@ -12,7 +12,7 @@ use Rattle.coded.specs.declared.CodedQuestion.{CodedQuestion}
 use Rattle.judge.specs.declared.Answer.{Answer}
 use Rattle.judge.specs.declared.Answer.the-variants.{Refused}
 use Rattle.limits.specs.Limits.{limitWithin, noLimit}
-use Rattle.question.specs.Refusals.{isNumber, encounterWithin, puckWithin, delayAccelerationWithin, sidesKnown, adviceWithin, timesWithin, Check, check}
+use Rattle.question.specs.Refusals.{isNumber, encounterWithin, puckWithin, delayAccelerationWithin, Check, check, questionChecks}
 use Rattle.coded.specs.Coded.{codedQuestion}
 use Rattle.judge.specs.Answers.{answer}
 use Rattle.record.specs.declared.Record.{Record}
@@ -69,14 +69,9 @@ codedChecks met code limit =
     ∷ check 6 (limitWithin limit || isNumber noLimit limit)
     ∷ []
 
--- "Free: 7, 4, 5, 6."
+-- "Free: 7, 4, 5, 6", with document 02's numbers "right after 5": 7, 4, 5, 14, 15, 16, 6
 abbrev pub freeChecks : LastEncounter → Question → List Check
-freeChecks encounter z =
-    check 7 (present encounter)
-    ∷ check 4 (sidesKnown z)
-    ∷ check 5 (adviceWithin z)
-    ∷ check 6 (timesWithin z)
-    ∷ []
+freeChecks encounter z = check 7 (present encounter) ∷ questionChecks z
 
 -- the refusal of an answer, if it is one
 abbrev pub refusalIn : Answer → Checked

@@ -1,11 +1,12 @@
 -- The numbers that C and Rust get hold the drawing and the screen point: no refusal is numbered 0, and a drawing has at most three pieces. Assumes nothing.
 use mathlib.Core.Path.{_≡_, refl, sym, ap, subst, _∙_}
-use mathlib.Core.Bool.{Bool, true, false, cond}
+use mathlib.Core.Bool.{Bool, true, false, cond, _&&_}
 use mathlib.Core.List.{List, [], _∷_, _++_}
 use Prim.Native.Nat.{ℕ, _≤_, _<_}
 use native.Mathlib.Omega.{arith}
 use borrow.Author.Tests.{ne-eqb}
-use lib.Dec.{leb}
+use lib.Dec.{T, leb, ltb, ltb→lt}
+use lib.Ieee.Fits.{and-l, and-r}
 use lib.ListN.{length}
 use Rattle.integers.proofs.Branches.{picks-no}
 use Rattle.instant.specs.declared.Time.{Time}
@@ -29,17 +30,17 @@ use Rattle.demands.specs.Screen.{pieceIn, contentIn, pointIn, RightlyDra
 use Rattle.demands.proofs.ScreenRight.{at-most-three, drawing-right, point-right}
 
 -- ---- the refusals' numbers
-abbrev Numbered : List Check → Type 0
-Numbered [] = Unit {0}
-Numbered (c ∷ l) = (0 < c .number) × Numbered l
+abbrev numbered : List Check → Bool
+numbered [] = true
+numbered (c ∷ l) = ltb 0 (c .number) && numbered l
 
-first-number : (l : List Check) → Numbered l → (n : ℕ) → firstRefusal l ≡ Checked.Refused n → 0 < n
+first-number : (l : List Check) → T (numbered l) → (n : ℕ) → firstRefusal l ≡ Checked.Refused n → 0 < n
 first-number [] h n e = absurd (let z : _≡_ {A = ℕ} 0 1 = cc in omega arith)
-first-number (c ∷ l) h n e = go (c .passes) (first-number l (h .1) n) e
+first-number (c ∷ l) h n e = go (c .passes) (first-number l (and-r (ltb 0 (c .number)) (numbered l) h) n) e
   where
     go : (b : Bool) → (firstRefusal l ≡ Checked.Refused n → 0 < n) → cond b (firstRefusal l) (Checked.Refused (c .number)) ≡ Checked.Refused n → 0 < n
     go true f k = f k
-    go false f k = let z : c .number ≡ n = cc in omega (arith, z, h .0)
+    go false f k = let z : c .number ≡ n = cc in let above = ltb→lt 0 (c .number) (and-l (ltb 0 (c .number)) (numbered l) h) in omega (arith, z, above)
 
 -- ---- a drawing
 time-held : (t : Time) (x : Piece) → pieceIn (withTime t x) ≡ record { from = t; piece = x }
@@ -74,7 +75,7 @@ point-held (Checked.Refused n) f p = picks-no _ _ _ (ne-eqb n 0 (omega (arith, f
 module _ (x : Encounter) (y : Settings) (z : Question) where
   refusal-number : (n : ℕ) → refusal x y z ≡ Checked.Refused n → 0 < n
   unfolding refusal
-  refusal-number = first-number (plainChecks x y z) (omega arith, (omega arith, (omega arith, (omega arith, (omega arith, (omega arith, tt))))))
+  refusal-number = first-number (plainChecks x y z) tt
 
   drawing-held : contentIn (flatContent (screenDrawing x y z)) ≡ screenDrawing x y z
   unfolding screenDrawing
@@ -86,8 +87,7 @@ module _ (x : Encounter) (y : Settings) (z : Question) where
   module _ (t : ℕ) where
     point-number : (n : ℕ) → pointRefusal x y z t ≡ Checked.Refused n → 0 < n
     unfolding pointRefusal
-    point-number =
-        first-number (plainChecks x y z ++ (check 6 (leb t lastSecond) ∷ [])) (omega arith, (omega arith, (omega arith, (omega arith, (omega arith, (omega arith, (omega arith, tt)))))))
+    point-number = first-number (plainChecks x y z ++ (check 6 (leb t lastSecond) ∷ [])) tt
 
     answer-held : pointIn (flatPoint (screenPoint x y z t)) ≡ screenPoint x y z t
     unfolding screenPoint

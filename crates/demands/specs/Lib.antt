@@ -5,3 +5,4 @@ pub mod Sheets
 pub mod Program
 pub mod Marked
 pub mod Screen
+pub mod Unchanged

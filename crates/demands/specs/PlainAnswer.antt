@@ -23,7 +23,7 @@ abbrev pub JudgedAs : Encounter → Settings → Question → Answer → Type 0
 JudgedAs x y z answer = (verdict : Verdict) × (answer ≡ Answer.Judged verdict) × Demand3 (twoSided z) (sensedQuestion x y z) verdict
 
 pub record RightlyAnswered (x : Encounter) (y : Settings) (z : Question) (answer : Answer) : Type 0 where
-  -- the first of 1 to 6 whose condition the numbers meet, "in rising order"
+  -- the first of 1, 2, 3, 4, 5, 14, 15, 16, 6 whose condition the numbers meet
   pub refused : (number : ℕ) → refusal x y z ≡ Refused number → answer ≡ Answer.Refused number
   pub judged : refusal x y z ≡ Accepted → JudgedAs x y z answer
   pub one-sided : refusal x y z ≡ Accepted → twoSided z ≡ false → Demand2 x y z answer

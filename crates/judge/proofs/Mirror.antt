@@ -1,7 +1,7 @@
 -- Turning the sense with all heights and speeds negated leaves the answer: the sensed question is the same one, so climb and descend are proved once, and
 -- M3 is M1. Assumes nothing.
 use mathlib.Core.Path.{_≡_, refl, sym, ap, ap₂, _∙_, subst}
-use mathlib.Core.Bool.{Bool, true, false, cond, _&&_, _||_}
+use mathlib.Core.Bool.{Bool, true, false, cond, not, _&&_, _||_}
 use mathlib.Core.List.{List, [], _∷_}
 use mathlib.Core.Logic.{⊎-elim}
 use Prim.Native.Nat.{ℕ}
@@ -21,8 +21,8 @@ use Rattle.question.specs.declared.Settings.{Settings}
 use Rattle.question.specs.declared.Question.{Question}
 use Rattle.question.specs.declared.Checked.{Checked}
 use Rattle.judge.specs.declared.Answer.{Answer}
-use Rattle.limits.specs.Limits.{within, distanceWithin, maxHeight, heightWithin, closingSpeedWithin, maxSpeed, speedWithin, strengthWithin, noLimit}
-use Rattle.question.specs.Refusals.{isNumber, senseOf, twoSided, lowerWithin, upperZero, upperRanges, strengthsOrdered, targetsOrdered, upperWithin, Check, firstRefusal, plainChecks, refusal}
+use Rattle.limits.specs.Limits.{within, distanceWithin, maxHeight, heightWithin, closingSpeedWithin, maxSpeed, speedWithin, targetWithin, noLimit}
+use Rattle.question.specs.Refusals.{isNumber, senseOf, twoSided, targetsOrdered, upperZero, Check, firstRefusal, plainChecks, refusal}
 use Rattle.sensed.specs.Sensed.{sensedQuestion}
 use Rattle.verdict.specs.Verdicts.{verdict}
 use Rattle.judge.specs.Answers.{answer}
@@ -118,6 +118,10 @@ mirror-within B x t =
 zero-mirror : (x : ℤ) → T (isNumber (pos 0) x) → T (isNumber (pos 0) (negℤ x))
 zero-mirror x t = subst (λ (v : ℤ). T (isNumber (pos 0) (negℤ v))) (sym (is-number (pos 0) x t)) tt
 
+or-mapped : (a b b′ : Bool) → (T b → T b′) → T (a || b) → T (a || b′)
+or-mapped true b b′ f t = tt
+or-mapped false b b′ f t = f t
+
 accepts : (l : List Check) → AllPass l → firstRefusal l ≡ Checked.Accepted
 accepts [] a = refl
 accepts (c ∷ l) a = go (c .passes) (a .0) (accepts l (a .1))
@@ -134,23 +138,28 @@ module _ (x : Encounter) (y : Settings) (z : Question) (accepted : refusal x y z
   turn : Turned z
   turn = turned-sense z (and-r (isNumber (pos 1) (z .sides) || isNumber (pos 2) (z .sides)) (isNumber (pos 0) (z .sense) || isNumber (pos 1) (z .sense)) (passed .1 .1 .1 .0))
 
-  upper-turned : T (cond (twoSided z) (upperWithin z) (upperZero z)) → T (cond (twoSided z) (upperWithin (turned z)) (upperZero (turned z)))
-  upper-turned t = go (twoSided z) t
-    where
-      go : (b : Bool) → T (cond b (upperWithin z) (upperZero z)) → T (cond b (upperWithin (turned z)) (upperZero (turned z)))
-      go true h =
-          let ranges = and-l (upperRanges z) (strengthsOrdered z && targetsOrdered z) h in
-          let orders = and-r (upperRanges z) (strengthsOrdered z && targetsOrdered z) h in
-          and-i (upperRanges (turned z)) (strengthsOrdered z && targetsOrdered (turned z))
-          (and-i (speedWithin (negℤ (z .«upper_target»))) (strengthWithin (z .«upper_strength»))
-          (mirror-within maxSpeed (z .«upper_target») (and-l (speedWithin (z .«upper_target»)) (strengthWithin (z .«upper_strength»)) ranges))
-          (and-r (speedWithin (z .«upper_target»)) (strengthWithin (z .«upper_strength»)) ranges))
-          (and-i (strengthsOrdered z) (targetsOrdered (turned z)) (and-l (strengthsOrdered z) (targetsOrdered z) orders)
-          (subst T (sym (ap₂ leZ (same-value x y z turn (z .target)) (same-value x y z turn (z .«upper_target»)))) (and-r (strengthsOrdered z) (targetsOrdered z) orders)))
-      go false h =
-          and-i (isNumber (pos 0) (negℤ (z .«upper_target»))) (isNumber (pos 0) (z .«upper_strength»))
-          (zero-mirror (z .«upper_target») (and-l (isNumber (pos 0) (z .«upper_target»)) (isNumber (pos 0) (z .«upper_strength»)) h))
-          (and-r (isNumber (pos 0) (z .«upper_target»)) (isNumber (pos 0) (z .«upper_strength»)) h)
+  targets-turned : T (targetWithin (negℤ (z .target)) && (not (twoSided z) || targetWithin (negℤ (z .«upper_target»))))
+  targets-turned =
+      let t = targetWithin (z .target) in
+      let t′ = targetWithin (z .«upper_target») in
+      let passes = passed .1 .1 .1 .1 .0 in
+      and-i (targetWithin (negℤ (z .target))) (not (twoSided z) || targetWithin (negℤ (z .«upper_target»)))
+      (mirror-within maxSpeed (z .target) (and-l t (not (twoSided z) || t′) passes))
+      (or-mapped (not (twoSided z)) t′ (targetWithin (negℤ (z .«upper_target»))) (mirror-within maxSpeed (z .«upper_target»)) (and-r t (not (twoSided z) || t′) passes))
+
+  order-turned : T (not (twoSided z) || targetsOrdered (turned z))
+  order-turned =
+      or-mapped (not (twoSided z)) (targetsOrdered z) (targetsOrdered (turned z))
+      (λ t. subst T (sym (ap₂ leZ (same-value x y z turn (z .target)) (same-value x y z turn (z .«upper_target»)))) t)
+      (passed .1 .1 .1 .1 .1 .1 .0)
+
+  zeros-turned : T (twoSided z || upperZero (turned z))
+  zeros-turned =
+      let t = isNumber (pos 0) (z .«upper_target») in
+      let s = isNumber (pos 0) (z .«upper_strength») in
+      or-mapped (twoSided z) (upperZero z) (upperZero (turned z))
+      (λ h. and-i (isNumber (pos 0) (negℤ (z .«upper_target»))) s (zero-mirror (z .«upper_target») (and-l t s h)) (and-r t s h))
+      (passed .1 .1 .1 .1 .1 .1 .1 .0)
 
   pub mirror-accepted : refusal (mirrored x) y (turned z) ≡ Checked.Accepted
   unfolding refusal
@@ -168,7 +177,6 @@ module _ (x : Encounter) (y : Settings) (z : Question) (accepted : refusal x y z
       let t₃ = and-l ((r && h) && c) v t₂ in
       let t₄ = and-l (r && h) c t₃ in
       let sides = isNumber (pos 1) (z .sides) || isNumber (pos 2) (z .sides) in
-      let lower = and-l (lowerWithin z) (cond (twoSided z) (upperWithin z) (upperZero z)) (passed .1 .1 .1 .1 .0) in
       accepts (plainChecks (mirrored x) y (turned z)) (
         and-i (((r && h′) && c) && v′) i′ (and-i ((r && h′) && c) v′ (and-i (r && h′) c (and-i r h′ (and-l r h t₄) (mirror-within maxHeight (x .height) (and-r r h t₄))) (and-r (r && h) c t₃)) (mirror-within maxSpeed (x .speed) (and-r ((r && h) && c) v t₂))) (mirror-within maxSpeed (x .«intruder_speed») (and-r (((r && h) && c) && v) i t₁)),
         (
@@ -178,10 +186,8 @@ module _ (x : Encounter) (y : Settings) (z : Question) (accepted : refusal x y z
             (
               and-i sides (isNumber (pos 0) (pos 1 -ℤ z .sense) || isNumber (pos 1) (pos 1 -ℤ z .sense)) (and-l sides (isNumber (pos 0) (z .sense) || isNumber (pos 1) (z .sense)) (passed .1 .1 .1 .0)) (turn .known),
               (
-                and-i (lowerWithin (turned z)) (cond (twoSided z) (upperWithin (turned z)) (upperZero (turned z)))
-                    (and-i (speedWithin (negℤ (z .target))) (strengthWithin (z .strength)) (mirror-within maxSpeed (z .target) (and-l (speedWithin (z .target)) (strengthWithin (z .strength)) lower)) (and-r (speedWithin (z .target)) (strengthWithin (z .strength)) lower))
-                    (upper-turned (and-r (lowerWithin z) (cond (twoSided z) (upperWithin z) (upperZero z)) (passed .1 .1 .1 .1 .0))),
-                (passed .1 .1 .1 .1 .1 .0, tt),
+                targets-turned,
+                (passed .1 .1 .1 .1 .1 .0, (order-turned, (zeros-turned, (passed .1 .1 .1 .1 .1 .1 .1 .1 .0, tt)))),
               ),
             ),
           ),

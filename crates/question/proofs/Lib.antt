@@ -1,2 +1,3 @@
 pub mod WithinLimits
 pub mod SameFields
+pub mod EarlierAdvice

@@ -1,5 +1,5 @@
 -- An accepted question is within document 01's limits, field by field: the tie from the ordered refusals to every bound. Assumes nothing.
-use mathlib.Core.Path.{_≡_}
+use mathlib.Core.Path.{_≡_, refl, sym, subst}
 use mathlib.Core.Bool.{Bool, true, false, not, cond, _&&_, _||_}
 use mathlib.Core.List.{List, [], _∷_}
 use mathlib.Core.Logic.{_⊎_, inl, inr, ⊎-elim}
@@ -9,7 +9,7 @@ use lib.Dec.{T}
 use lib.Ieee.Fits.{and-i, and-l, and-r}
 use lib.IntN.{ℤ, pos, negℤ}
 use lib.Signed.{_≤ℤ_, leZ, leZ-yes}
-use Rattle.limits.specs.Limits.{within, maxDistance, distanceWithin, maxHeight, heightWithin, maxClosingSpeed, closingSpeedWithin, maxSpeed, speedWithin, maxRadius, radiusWithin, minHalfHeight, maxHalfHeight, halfHeightWithin, minStrength, maxStrength, strengthWithin, maxDelayAcceleration, maxDelay, delayWithin, maxLimit, limitWithin, noLimit}
+use Rattle.limits.specs.Limits.{within, maxDistance, distanceWithin, maxHeight, heightWithin, maxClosingSpeed, closingSpeedWithin, maxSpeed, speedWithin, maxRadius, radiusWithin, minHalfHeight, maxHalfHeight, halfHeightWithin, minStrength, maxStrength, strengthWithin, targetWithin, maxDelayAcceleration, maxDelay, delayWithin, maxLimit, limitWithin, noLimit}
 use Rattle.integers.proofs.Quotation.{quote}
 use Rattle.integers.proofs.Certificates.{by≤, gap≤}
 use Rattle.integers.proofs.Laws.{≤ℤ-trans}
@@ -17,7 +17,7 @@ use Rattle.question.specs.declared.Encounter.{Encounter}
 use Rattle.question.specs.declared.Settings.{Settings}
 use Rattle.question.specs.declared.Question.{Question}
 use Rattle.question.specs.declared.Checked.{Checked}
-use Rattle.question.specs.Refusals.{isNumber, twoSided, sidesKnown, lowerWithin, upperZero, upperRanges, strengthsOrdered, targetsOrdered, upperWithin, noDelay, limitAllowed, Check, firstRefusal, plainChecks, refusal}
+use Rattle.question.specs.Refusals.{isNumber, twoSided, sidesKnown, targetsWithin, strengthsOrdered, strengthsWithin, upperTargetInSense, upperZero, upperUnused, noDelay, limitAllowed, Check, firstRefusal, plainChecks, refusal}
 
 -- ---- accepted: every test is passed
 abbrev pub AllPass : List Check → Type 0
@@ -47,6 +47,11 @@ pub or-else : (a b : Bool) → T (a || b) → T a ⊎ T b
 or-else true b t = inl tt
 or-else false b t = inr t
 
+-- a test that is asked only where a holds
+pub asked-where : (a b : Bool) → T (not a || b) → a ≡ true → T b
+asked-where true b t e = t
+asked-where false b t e = absurd (subst T (sym e) tt)
+
 -- ---- the fields of an accepted question, each within its limits
 pub record WithinLimits (x : Encounter) (y : Settings) (z : Question) : Type 0 where
   pub distance : Between (negℤ (pos maxDistance)) (pos maxDistance) (x .distance)
@@ -60,7 +65,10 @@ pub record WithinLimits (x : Encounter) (y : Settings) (z : Question) : Type 0 w
   pub known : T (sidesKnown z)
   pub target : Between (negℤ (pos maxSpeed)) (pos maxSpeed) (z .target)
   pub strength : Between (pos minStrength) (pos maxStrength) (z .strength)
-  pub upper : T (cond (twoSided z) (upperWithin z) (upperZero z))
+  pub targets : T (targetsWithin z)
+  pub strengths : T (strengthsWithin z)
+  pub in-sense : T (upperTargetInSense z)
+  pub unused : T (upperUnused z)
   pub delay : Between (pos 0) (pos maxDelay) (z .delay)
   pub limit : T (limitAllowed z)
 
@@ -81,7 +89,8 @@ module _ (x : Encounter) (y : Settings) (z : Question) (e : refusal x y z ≡ Ch
       let t₃ = and-l ((r && h) && c) v t₂ in
       let t₄ = and-l (r && h) c t₃ in
       let t₅ = passed .1 .1 .1 .1 .0 in
-      let t₆ = passed .1 .1 .1 .1 .1 .0 in
+      let t₁₄ = passed .1 .1 .1 .1 .1 .0 in
+      let t₆ = passed .1 .1 .1 .1 .1 .1 .1 .1 .0 in
       let times = not (twoSided z) || noDelay z in
       let limits = limitAllowed z in
       record {
@@ -94,9 +103,12 @@ module _ (x : Encounter) (y : Settings) (z : Question) (e : refusal x y z ≡ Ch
         half = between (pos minHalfHeight) (pos maxHalfHeight) (y .«half_height») (and-r (radiusWithin (y .radius)) (halfHeightWithin (y .«half_height»)) (passed .1 .0));
         acceleration = between (pos 0) (pos maxDelayAcceleration) (y .«delay_acceleration») (passed .1 .1 .0);
         known = passed .1 .1 .1 .0;
-        target = between (negℤ (pos maxSpeed)) (pos maxSpeed) (z .target) (and-l (speedWithin (z .target)) (strengthWithin (z .strength)) (and-l (lowerWithin z) (cond (twoSided z) (upperWithin z) (upperZero z)) t₅));
-        strength = between (pos minStrength) (pos maxStrength) (z .strength) (and-r (speedWithin (z .target)) (strengthWithin (z .strength)) (and-l (lowerWithin z) (cond (twoSided z) (upperWithin z) (upperZero z)) t₅));
-        upper = and-r (lowerWithin z) (cond (twoSided z) (upperWithin z) (upperZero z)) t₅;
+        target = between (negℤ (pos maxSpeed)) (pos maxSpeed) (z .target) (and-l (targetWithin (z .target)) (not (twoSided z) || targetWithin (z .«upper_target»)) t₅);
+        strength = between (pos minStrength) (pos maxStrength) (z .strength) (and-l (strengthWithin (z .strength)) (not (twoSided z) || (strengthWithin (z .«upper_strength») && strengthsOrdered z)) t₁₄);
+        targets = t₅;
+        strengths = t₁₄;
+        in-sense = passed .1 .1 .1 .1 .1 .1 .0;
+        unused = passed .1 .1 .1 .1 .1 .1 .1 .0;
         delay = between (pos 0) (pos maxDelay) (z .delay) (and-l (delayWithin (z .delay)) times (and-l (delayWithin (z .delay) && times) limits t₆));
         limit = and-r (delayWithin (z .delay) && times) limits t₆;
       }
@@ -108,18 +120,27 @@ module _ (x : Encounter) (y : Settings) (z : Question) (e : refusal x y z ≡ Ch
       (λ h. let b = between noLimit noLimit (z .limit) h in record { from = ≤ℤ-trans (leZ-yes tt) (b .from); to = b .to })
       (or-else (limitWithin (z .limit)) (isNumber noLimit (z .limit)) (within-limits .limit))
 
+  -- two-sided, the upper fields are within their limits too
+  pub upper-limits : twoSided z ≡ true → Between (negℤ (pos maxSpeed)) (pos maxSpeed) (z .«upper_target») × Between (pos minStrength) (pos maxStrength) (z .«upper_strength»)
+  upper-limits two =
+      let l = within-limits in
+      let target = targetWithin (z .«upper_target») in
+      let strength = strengthWithin (z .«upper_strength») in
+      (
+        between (negℤ (pos maxSpeed)) (pos maxSpeed) (z .«upper_target») (asked-where (twoSided z) target (and-r (targetWithin (z .target)) (not (twoSided z) || target) (l .targets)) two),
+        between (pos minStrength) (pos maxStrength) (z .«upper_strength») (
+          and-l strength (strengthsOrdered z) (asked-where (twoSided z) (strength && strengthsOrdered z) (and-r (strengthWithin (z .strength)) (not (twoSided z) || (strength && strengthsOrdered z)) (l .strengths)) two)),
+      )
+
   -- the upper fields, within their limits or 0
   pub upper-between : Between (negℤ (pos maxSpeed)) (pos maxSpeed) (z .«upper_target») × Between (pos 0) (pos maxStrength) (z .«upper_strength»)
-  upper-between = go (twoSided z) (within-limits .upper)
+  upper-between = go (twoSided z) refl (within-limits .unused)
     where
       widen : (v : ℤ) (B : ℕ) → Between (pos 0) (pos 0) v → Between (negℤ (pos B)) (pos B) v
       widen v B h = record { from = by≤ (B ∷ []) (v ∷ []) (gap≤ (h .from)) (λ v. search quote depth 20) tt; to = by≤ (B ∷ []) (v ∷ []) (gap≤ (h .to)) (λ v. search quote depth 20) tt }
 
-      go : (b : Bool) → T (cond b (upperWithin z) (upperZero z)) → Between (negℤ (pos maxSpeed)) (pos maxSpeed) (z .«upper_target») × Between (pos 0) (pos maxStrength) (z .«upper_strength»)
-      go true t =
-          let r = and-l (upperRanges z) (strengthsOrdered z && targetsOrdered z) t in
-          let b = between (pos minStrength) (pos maxStrength) (z .«upper_strength») (and-r (speedWithin (z .«upper_target»)) (strengthWithin (z .«upper_strength»)) r) in
-          (between (negℤ (pos maxSpeed)) (pos maxSpeed) (z .«upper_target») (and-l (speedWithin (z .«upper_target»)) (strengthWithin (z .«upper_strength»)) r), record { from = ≤ℤ-trans (leZ-yes tt) (b .from); to = b .to })
-      go false t =
+      go : (b : Bool) → twoSided z ≡ b → T (b || upperZero z) → Between (negℤ (pos maxSpeed)) (pos maxSpeed) (z .«upper_target») × Between (pos 0) (pos maxStrength) (z .«upper_strength»)
+      go true two t = let u = upper-limits two in (u .0, record { from = ≤ℤ-trans (leZ-yes tt) (u .1 .from); to = u .1 .to })
+      go false one t =
           let b = between (pos 0) (pos 0) (z .«upper_strength») (and-r (isNumber (pos 0) (z .«upper_target»)) (isNumber (pos 0) (z .«upper_strength»)) t) in
           (widen (z .«upper_target») maxSpeed (between (pos 0) (pos 0) (z .«upper_target») (and-l (isNumber (pos 0) (z .«upper_target»)) (isNumber (pos 0) (z .«upper_strength»)) t)), record { from = b .from; to = widen (z .«upper_strength») maxStrength b .to })

@@ -44,28 +44,31 @@ delayAccelerationWithin y = accelerationWithin (y .«delay_acceleration»)
 abbrev pub sidesKnown : Question → Bool
 sidesKnown z = (isNumber (pos 1) (z .sides) || isNumber (pos 2) (z .sides)) && (isNumber (pos 0) (z .sense) || isNumber (pos 1) (z .sense))
 
--- "5 target or strength outside limits; two-sided, also an upper field outside limits, b < a, or w × upper target below w × target; one-sided, also
--- an upper field not 0"
-abbrev pub lowerWithin : Question → Bool
-lowerWithin z = targetWithin (z .target) && strengthWithin (z .strength)
+-- What 5 was for in document 01 has four numbers in document 02. "Number 5 keeps only the target and upper target limits." A one-sided question has no upper target:
+-- its "upper fields are tested for 16 alone".
+abbrev pub targetsWithin : Question → Bool
+targetsWithin z = targetWithin (z .target) && (not (twoSided z) || targetWithin (z .«upper_target»))
 
-abbrev pub upperZero : Question → Bool
-upperZero z = isNumber (pos 0) (z .«upper_target») && isNumber (pos 0) (z .«upper_strength»)
-
-abbrev pub upperRanges : Question → Bool
-upperRanges z = targetWithin (z .«upper_target») && strengthWithin (z .«upper_strength»)
-
+-- 14: "a strength outside its limits or, two-sided, b < a"
 abbrev pub strengthsOrdered : Question → Bool
 strengthsOrdered z = leZ (z .strength) (z .«upper_strength»)
 
+abbrev pub strengthsWithin : Question → Bool
+strengthsWithin z = strengthWithin (z .strength) && (not (twoSided z) || (strengthWithin (z .«upper_strength») && strengthsOrdered z))
+
+-- 15: "w × upper target below w × target when two-sided"
 abbrev pub targetsOrdered : Question → Bool
 targetsOrdered z = leZ (sensed (senseOf z) (z .target)) (sensed (senseOf z) (z .«upper_target»))
 
-abbrev pub upperWithin : Question → Bool
-upperWithin z = upperRanges z && (strengthsOrdered z && targetsOrdered z)
+abbrev pub upperTargetInSense : Question → Bool
+upperTargetInSense z = not (twoSided z) || targetsOrdered z
 
-abbrev pub adviceWithin : Question → Bool
-adviceWithin z = lowerWithin z && cond (twoSided z) (upperWithin z) (upperZero z)
+-- 16: "an upper field not 0 when one-sided"
+abbrev pub upperZero : Question → Bool
+upperZero z = isNumber (pos 0) (z .«upper_target») && isNumber (pos 0) (z .«upper_strength»)
+
+abbrev pub upperUnused : Question → Bool
+upperUnused z = twoSided z || upperZero z
 
 -- "6 delay or limit outside limits, or a delay when two-sided"
 abbrev pub noDelay : Question → Bool
@@ -90,16 +93,24 @@ abbrev pub firstRefusal : List Check → Checked
 firstRefusal [] = Accepted
 firstRefusal (c ∷ l) = cond (c .passes) (firstRefusal l) (Refused (c .number))
 
--- "The entry that judges plain numbers tests 1 to 6 in rising order."
+-- the numbers of a question's own fields: 14 to 16 are "tested right after 5 in rising order", and so before 6
+abbrev pub questionChecks : Question → List Check
+questionChecks z =
+    check 4 (sidesKnown z)
+    ∷ check 5 (targetsWithin z)
+    ∷ check 14 (strengthsWithin z)
+    ∷ check 15 (upperTargetInSense z)
+    ∷ check 16 (upperUnused z)
+    ∷ check 6 (timesWithin z)
+    ∷ []
+
+-- "The entry that judges plain numbers": 1, 2, 3, then those of the question
 abbrev pub plainChecks : Encounter → Settings → Question → List Check
 plainChecks x y z =
     check 1 (encounterWithin x)
     ∷ check 2 (puckWithin y)
     ∷ check 3 (delayAccelerationWithin y)
-    ∷ check 4 (sidesKnown z)
-    ∷ check 5 (adviceWithin z)
-    ∷ check 6 (timesWithin z)
-    ∷ []
+    ∷ questionChecks z
 
 unfoldable pub refusal : Encounter → Settings → Question → Checked
 refusal x y z = firstRefusal (plainChecks x y z)

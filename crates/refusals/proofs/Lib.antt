@@ -1,1 +1,2 @@
 pub mod SensedOrder
+pub mod TestedInOrder

@@ -1,8 +1,8 @@
-// Refusals 1 to 6: what a question must meet besides the fields' limits, and the tests in rising order. The conditions are `question`'s specs/Refusals.antt.
+// Refusals 1 to 6 and 14 to 16: what a question must meet besides the fields' limits, and the tests in their order. The conditions are `question`'s specs/Refusals.antt.
 ghost use mathlib.Core.Path.{_≡_};
 ghost use lib.Signed.{leZ};
 ghost use Rattle.limits.specs.Limits.{delayWithin};
-ghost use Rattle.question.specs.Refusals.{lowerWithin, upperZero, upperRanges, strengthsOrdered, targetsOrdered, adviceWithin, noDelay, limitAllowed, timesWithin, refusal};
+ghost use Rattle.question.specs.Refusals.{targetsWithin, strengthsWithin, targetsOrdered, upperTargetInSense, upperUnused, noDelay, limitAllowed, timesWithin, questionChecks, firstRefusal, refusal};
 use advisory::Sense;
 use limits::MAX_DELAY;
 use limits::MAX_LIMIT;
@@ -22,31 +22,23 @@ use question::sense_of;
 use question::sides_known;
 use question::two_sided;
 
-fn lower_within(question: Question) -> bool
-    ensures { λ r. ⌜ r ≡ lowerWithin question ⌝ }
+// Refusal 5.
+fn targets_within(question: Question) -> bool
+    ensures { λ r. ⌜ r ≡ targetsWithin question ⌝ }
 {
     ((MIN_SPEED <= question.target) & (question.target <= MAX_SPEED))
-        & ((MIN_STRENGTH <= question.strength) & (question.strength <= MAX_STRENGTH))
+        & (!((2 <= question.sides) & (question.sides <= 2))
+            | ((MIN_SPEED <= question.upper_target) & (question.upper_target <= MAX_SPEED)))
 }
 
-fn upper_zero(question: Question) -> bool
-    ensures { λ r. ⌜ r ≡ upperZero question ⌝ }
+// Refusal 14.
+fn strengths_within(question: Question) -> bool
+    ensures { λ r. ⌜ r ≡ strengthsWithin question ⌝ }
 {
-    ((0 <= question.upper_target) & (question.upper_target <= 0))
-        & ((0 <= question.upper_strength) & (question.upper_strength <= 0))
-}
-
-fn upper_ranges(question: Question) -> bool
-    ensures { λ r. ⌜ r ≡ upperRanges question ⌝ }
-{
-    ((MIN_SPEED <= question.upper_target) & (question.upper_target <= MAX_SPEED))
-        & ((MIN_STRENGTH <= question.upper_strength) & (question.upper_strength <= MAX_STRENGTH))
-}
-
-fn strengths_ordered(question: Question) -> bool
-    ensures { λ r. ⌜ r ≡ strengthsOrdered question ⌝ }
-{
-    question.strength <= question.upper_strength
+    ((MIN_STRENGTH <= question.strength) & (question.strength <= MAX_STRENGTH))
+        & (!((2 <= question.sides) & (question.sides <= 2))
+            | (((MIN_STRENGTH <= question.upper_strength) & (question.upper_strength <= MAX_STRENGTH))
+                & (question.strength <= question.upper_strength)))
 }
 
 fn target_at_most_upper(question: Question) -> bool
@@ -71,16 +63,20 @@ fn targets_ordered(question: Question) -> bool
     }
 }
 
-fn advice_within(question: Question) -> bool
-    ensures { λ r. ⌜ r ≡ adviceWithin question ⌝ }
+// Refusal 15.
+fn upper_target_in_sense(question: Question) -> bool
+    ensures { λ r. ⌜ r ≡ upperTargetInSense question ⌝ }
 {
-    if !lower_within(question) {
-        return false;
-    }
-    if two_sided(question) {
-        return upper_ranges(question) & (strengths_ordered(question) & targets_ordered(question));
-    }
-    upper_zero(question)
+    !two_sided(question) | targets_ordered(question)
+}
+
+// Refusal 16.
+fn upper_unused(question: Question) -> bool
+    ensures { λ r. ⌜ r ≡ upperUnused question ⌝ }
+{
+    ((2 <= question.sides) & (question.sides <= 2))
+        | (((0 <= question.upper_target) & (question.upper_target <= 0))
+            & ((0 <= question.upper_strength) & (question.upper_strength <= 0)))
 }
 
 fn delay_within(question: Question) -> bool
@@ -102,6 +98,7 @@ fn limit_allowed(question: Question) -> bool
         | ((NO_LIMIT <= question.limit) & (question.limit <= NO_LIMIT))
 }
 
+// Refusal 6.
 fn times_within(question: Question) -> bool
     ensures { λ r. ⌜ r ≡ timesWithin question ⌝ }
 {
@@ -114,7 +111,32 @@ fn times_within(question: Question) -> bool
     !two_sided(question) | no_delay(question)
 }
 
-// Refusals 1 to 6 in rising order.
+// A question's own refusals: 4, 5, 14, 15, 16, 6.
+fn check_fields(question: Question) -> Checked
+    ensures { λ r. ⌜ r ≡ firstRefusal (questionChecks question) ⌝ }
+{
+    if !sides_known(question) {
+        return Checked::Refused(4);
+    }
+    if !targets_within(question) {
+        return Checked::Refused(5);
+    }
+    if !strengths_within(question) {
+        return Checked::Refused(14);
+    }
+    if !upper_target_in_sense(question) {
+        return Checked::Refused(15);
+    }
+    if !upper_unused(question) {
+        return Checked::Refused(16);
+    }
+    if !times_within(question) {
+        return Checked::Refused(6);
+    }
+    Checked::Accepted
+}
+
+// The refusals of plain numbers: 1, 2, 3, then the question's own.
 pub fn check_question(encounter: Encounter, settings: Settings, question: Question) -> Checked
     ensures { λ r. ⌜ r ≡ refusal encounter settings question ⌝ }
 {
@@ -127,14 +149,5 @@ pub fn check_question(encounter: Encounter, settings: Settings, question: Questi
     if !delay_acceleration_within(settings) {
         return Checked::Refused(3);
     }
-    if !sides_known(question) {
-        return Checked::Refused(4);
-    }
-    if !advice_within(question) {
-        return Checked::Refused(5);
-    }
-    if !times_within(question) {
-        return Checked::Refused(6);
-    }
-    Checked::Accepted
+    check_fields(question)
 }

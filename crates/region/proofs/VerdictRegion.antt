@@ -38,8 +38,8 @@ use Rattle.verdict.specs.declared.ClearSides.{ClearSides}
 use Rattle.verdict.specs.declared.Verdict.{Verdict}
 use Rattle.verdict.specs.declared.Verdict.the-variants.{Clear, Conflict, Conflicts}
 use Rattle.judge.specs.declared.Answer.{Answer}
-use Rattle.limits.specs.Limits.{distanceWithin, heightWithin, closingSpeedWithin, maxSpeed, speedWithin, strengthWithin, delayWithin, noLimit}
-use Rattle.question.specs.Refusals.{isNumber, twoSided, encounterWithin, puckWithin, delayAccelerationWithin, sidesKnown, lowerWithin, adviceWithin, timesWithin, refusal}
+use Rattle.limits.specs.Limits.{distanceWithin, heightWithin, closingSpeedWithin, maxSpeed, speedWithin, targetWithin, strengthWithin, delayWithin, noLimit}
+use Rattle.question.specs.Refusals.{isNumber, twoSided, encounterWithin, puckWithin, delayAccelerationWithin, sidesKnown, targetsWithin, strengthsWithin, timesWithin, refusal}
 use Rattle.sensed.specs.Sensed.{limitOf, sensedQuestion}
 use Rattle.coded.specs.Coded.{senseNumber, instructed, asked, codedQuestion}
 use Rattle.verdict.specs.Verdicts.{verdict}
@@ -131,20 +131,18 @@ module _ (x : Encounter) (y : Settings) (encounter : encounterWithin x ≡ true)
     abbrev question : Question
     question = instructed i (x .speed) noLimit
 
-    advice : T (adviceWithin question)
-    advice =
-        and-i (lowerWithin question) true
-        (and-i (speedWithin (rateOf (i .target) (x .speed))) (strengthWithin (pos (i .strength)))
-        (within-in (limits .target-from (x .speed) (own-speed .from)) (limits .target-to (x .speed) (own-speed .to)))
-        (within-in (pos≤ (limits .strength-from)) (pos≤ (limits .strength-to))))
-        tt
+    targets : T (targetsWithin question)
+    targets = and-i (targetWithin (rateOf (i .target) (x .speed))) true (within-in (limits .target-from (x .speed) (own-speed .from)) (limits .target-to (x .speed) (own-speed .to))) tt
+
+    strengths : T (strengthsWithin question)
+    strengths = and-i (strengthWithin (pos (i .strength))) true (within-in (pos≤ (limits .strength-from)) (pos≤ (limits .strength-to))) tt
 
     times : T (timesWithin question)
     times =
         let d = delayWithin (pos (i .delay)) in
         and-i (d && true) true (and-i d true (within-in (0≤pos (i .delay)) (pos≤ (limits .delay-to))) tt) tt
 
-    -- the encounter and the settings meet conditions 1 to 3, an instruction meets 4 to 6
+    -- the encounter and the settings meet conditions 1 to 3, an instruction meets the rest
     coded-accepted : refusal x y question ≡ Checked.Accepted
     unfolding refusal
     coded-accepted =
@@ -152,7 +150,8 @@ module _ (x : Encounter) (y : Settings) (encounter : encounterWithin x ≡ true)
         ∙ picks-yes (puckWithin y) _ _ puck
         ∙ picks-yes (delayAccelerationWithin y) _ _ acceleration
         ∙ picks-yes (sidesKnown question) _ _ (sense-known (i .sense))
-        ∙ picks-yes (adviceWithin question) _ _ (is-true (adviceWithin question) advice)
+        ∙ picks-yes (targetsWithin question) _ _ (is-true (targetsWithin question) targets)
+        ∙ picks-yes (strengthsWithin question) _ _ (is-true (strengthsWithin question) strengths)
         ∙ picks-yes (timesWithin question) _ _ (is-true (timesWithin question) times)
 
     -- the question's region in the numbers of the encounter, the settings and the instruction

@@ -5,10 +5,9 @@ use mathlib.Core.List.{[], _∷_}
 use mathlib.Core.Logic.{⊎-elim}
 use Prim.Native.Nat.{ℕ, _≤_}
 use lib.Dec.{T}
-use lib.Ieee.Fits.{and-l, and-r}
 use lib.IntN.{ℤ, pos, negℤ, _-ℤ_}
 use lib.Signed.{_≤ℤ_}
-use Rattle.limits.specs.Limits.{maxHeight, maxClosingSpeed, maxSpeed, maxRadius, maxHalfHeight, minStrength, maxStrength, strengthWithin, maxDelayAcceleration, targetWithin, maxDelay, maxLimit, limitWithin, noLimit}
+use Rattle.limits.specs.Limits.{maxHeight, maxClosingSpeed, maxSpeed, maxRadius, maxHalfHeight, minStrength, maxStrength, maxDelayAcceleration, maxDelay, maxLimit, limitWithin, noLimit}
 use Rattle.integers.specs.Extremes.{max0}
 use Rattle.integers.proofs.Quotation.{quote}
 use Rattle.integers.proofs.Certificates.{by≤, gap≤, _⊞_, nat≤}
@@ -22,8 +21,8 @@ use Rattle.question.specs.declared.Encounter.{Encounter}
 use Rattle.question.specs.declared.Settings.{Settings}
 use Rattle.question.specs.declared.Question.{Question}
 use Rattle.question.specs.declared.Checked.{Checked}
-use Rattle.question.specs.Refusals.{isNumber, senseOf, twoSided, upperZero, upperRanges, strengthsOrdered, targetsOrdered, upperWithin, refusal}
-use Rattle.question.proofs.WithinLimits.{Between, between, or-else, within-limits}
+use Rattle.question.specs.Refusals.{isNumber, senseOf, twoSided, refusal}
+use Rattle.question.proofs.WithinLimits.{Between, between, or-else, within-limits, upper-limits}
 use Rattle.sensed.specs.Sensed.{limitOf, sensedQuestion}
 
 -- w × z is as large as z
@@ -95,11 +94,9 @@ module _ (x : Encounter) (y : Settings) (z : Question) (e : refusal x y z ≡ Ch
   accepted-upper-sizes two =
       let l = within-limits x y z e in
       let w = senseOf z in
-      let ranges = upperRanges z in
-      let orders = strengthsOrdered z && targetsOrdered z in
-      let t = and-l ranges orders (subst (λ (b : Bool). T (cond b (upperWithin z) (upperZero z))) two (l .upper)) in
-      let target = between (negℤ (pos maxSpeed)) (pos maxSpeed) (z .«upper_target») (and-l (targetWithin (z .«upper_target»)) (strengthWithin (z .«upper_strength»)) t) in
-      let strength = between (pos minStrength) (pos maxStrength) (z .«upper_strength») (and-r (targetWithin (z .«upper_target»)) (strengthWithin (z .«upper_strength»)) t) in
+      let upper = upper-limits x y z e two in
+      let target = upper .0 in
+      let strength = upper .1 in
       let q = sensed-between w maxSpeedDifference (z .«upper_target» -ℤ x .«intruder_speed») (speed-between (z .«upper_target») (x .«intruder_speed») target (l .intruder)) in
       record {
         b-lo = at-least minStrength (z .«upper_strength») (strength .from);

@@ -1,21 +1,16 @@
 -- `refusals::check_question` meets its contract: each test passed leaves the rest of the list of checks, and the first that fails gives its number.
 use mathlib.Core.Path.{_≡_, sym, _∙_}
-use mathlib.Core.List.{List, [], _∷_}
-use Prim.Native.Nat.{ℕ, zero, suc}
+use Prim.Native.Nat.{ℕ}
 use borrow.Author.Needs.{needs}
 use borrow.Author.Tests.{not-true, not-false}
 use Rattle.question.specs.declared.Checked.{Checked}
-use Rattle.question.specs.Refusals.{encounterWithin, puckWithin, delayAccelerationWithin, sidesKnown, adviceWithin, timesWithin, Check, firstRefusal, plainChecks, refusal}
+use Rattle.question.specs.Refusals.{encounterWithin, puckWithin, delayAccelerationWithin, plainChecks, refusal}
 use Rattle.integers.proofs.Branches.{picks-yes, picks-no}
+use Rattle.refusals.proofs.TestedInOrder.{left}
 use Rattle.refusals.proofs.check_question.Statement.{statement}
 use Rattle.refusals.proofs.check_question.Tie as tie
 
--- the refusal among the checks that are left after the first k
-abbrev left : ℕ → List Check → Checked
-left zero l = firstRefusal l
-left (suc k) [] = firstRefusal []
-left (suc k) (c ∷ l) = left k l
-
+-- the refusal of the arguments, and the one among the checks that are left after the first k
 abbrev asked : tie.Start → Checked
 asked z = refusal (z .args .encounter) (z .args .settings) (z .args .question)
 
@@ -31,12 +26,6 @@ after-2 c = let b = c .before .before in let z = b .before .before in after-1 b 
 
 after-3 : (c : tie.Else3) → asked (c .before .before .before .before .before .before) ≡ after 3 (c .before .before .before .before .before .before)
 after-3 c = let b = c .before .before in let z = b .before .before .before .before in after-2 b ∙ picks-yes (delayAccelerationWithin (z .args .settings)) (after 3 z) (Checked.Refused 3) (sym (c .before .delay-acceleration-within .ensures) ∙ not-false _ (c .if3 .left))
-
-after-4 : (c : tie.Else4) → asked (c .before .before .before .before .before .before .before .before) ≡ after 4 (c .before .before .before .before .before .before .before .before)
-after-4 c = let b = c .before .before in let z = b .before .before .before .before .before .before in after-3 b ∙ picks-yes (sidesKnown (z .args .question)) (after 4 z) (Checked.Refused 4) (sym (c .before .sides-known .ensures) ∙ not-false _ (c .if4 .left))
-
-after-5 : (c : tie.Else5) → asked (c .before .before .before .before .before .before .before .before .before .before) ≡ after 5 (c .before .before .before .before .before .before .before .before .before .before)
-after-5 c = let b = c .before .before in let z = b .before .before .before .before .before .before .before .before in after-4 b ∙ picks-yes (adviceWithin (z .args .question)) (after 5 z) (Checked.Refused 5) (sym (c .before .advice-within .ensures) ∙ not-false _ (c .if5 .left))
 
 encounter-within-requires : tie.Need-encounter-within-requires
 encounter-within-requires c κs = search needs
@@ -57,26 +46,11 @@ delay-acceleration-within-requires c κs = search needs
 returns-3 : tie.Need-returns-3
 returns-3 c = let b = c .before .before in let z = b .before .before .before .before in sym (after-2 b ∙ picks-no (delayAccelerationWithin (z .args .settings)) (after 3 z) (Checked.Refused 3) (sym (c .before .delay-acceleration-within .ensures) ∙ not-true _ (c .if3 .taken)))
 
-sides-known-requires : tie.Need-sides-known-requires
-sides-known-requires c κs = search needs
+check-fields-requires : tie.Need-check-fields-requires
+check-fields-requires c κs = search needs
 
 returns-4 : tie.Need-returns-4
-returns-4 c = let b = c .before .before in let z = b .before .before .before .before .before .before in sym (after-3 b ∙ picks-no (sidesKnown (z .args .question)) (after 4 z) (Checked.Refused 4) (sym (c .before .sides-known .ensures) ∙ not-true _ (c .if4 .taken)))
-
-advice-within-requires : tie.Need-advice-within-requires
-advice-within-requires c κs = search needs
-
-returns-5 : tie.Need-returns-5
-returns-5 c = let b = c .before .before in let z = b .before .before .before .before .before .before .before .before in sym (after-4 b ∙ picks-no (adviceWithin (z .args .question)) (after 5 z) (Checked.Refused 5) (sym (c .before .advice-within .ensures) ∙ not-true _ (c .if5 .taken)))
-
-times-within-requires : tie.Need-times-within-requires
-times-within-requires c κs = search needs
-
-returns-6 : tie.Need-returns-6
-returns-6 c = let b = c .before .before in let z = b .before .before .before .before .before .before .before .before .before .before in sym (after-5 b ∙ picks-no (timesWithin (z .args .question)) Checked.Accepted (Checked.Refused 6) (sym (c .before .times-within .ensures) ∙ not-true _ (c .if6 .taken)))
-
-returns-7 : tie.Need-returns-7
-returns-7 c = let b = c .before .before in let z = b .before .before .before .before .before .before .before .before .before .before in sym (after-5 b ∙ picks-yes (timesWithin (z .args .question)) Checked.Accepted (Checked.Refused 6) (sym (c .before .times-within .ensures) ∙ not-false _ (c .if6 .left)))
+returns-4 c = c .check-fields .ensures ∙ sym (after-3 (c .before))
 
 pub check-question-spec : {M : Type 1} → statement M
 check-question-spec =
@@ -88,10 +62,5 @@ check-question-spec =
     returns-2
     delay-acceleration-within-requires
     returns-3
-    sides-known-requires
-    returns-4
-    advice-within-requires
-    returns-5
-    times-within-requires
-    returns-6
-    returns-7)
+    check-fields-requires
+    returns-4)
