@@ -1,0 +1,5 @@
+pub mod RuleOrder
+pub mod PathOrder
+pub mod WindowBetween
+pub mod Meeting
+pub mod BandTheorem
