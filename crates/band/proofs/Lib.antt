@@ -3,3 +3,5 @@ pub mod PathOrder
 pub mod WindowBetween
 pub mod Meeting
 pub mod BandTheorem
+pub mod AcceptedBand
+pub mod WhyTested
