@@ -100,7 +100,7 @@ module _ (x : Encounter) (y : Settings) (met : T (encounterWithin x)) (puck : T 
     delay-passes = both (le-leb 0 (i .delay) (omega arith)) (le-leb (i .delay) maxDelay (limits .delay-to))
 
     times-by-limit : timesWithin (instructed i (x .speed) limit) ≡ limitAllowed (instructed i (x .speed) limit)
-    times-by-limit = ap (λ (b : Bool). (b && true) && limitAllowed (instructed i (x .speed) limit)) delay-passes
+    times-by-limit = ap (λ (b : Bool). b && limitAllowed (instructed i (x .speed) limit)) delay-passes
 
     judged-order : refusalIn (answer x y (instructed i (x .speed) limit)) ≡ cond (limitAllowed (instructed i (x .speed) limit)) Accepted (Refused 6)
     judged-order =

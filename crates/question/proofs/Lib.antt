@@ -1,3 +1,4 @@
 pub mod WithinLimits
 pub mod SameFields
 pub mod EarlierAdvice
+pub mod EarlierTimes

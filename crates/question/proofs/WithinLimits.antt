@@ -17,7 +17,7 @@ use Rattle.question.specs.declared.Encounter.{Encounter}
 use Rattle.question.specs.declared.Settings.{Settings}
 use Rattle.question.specs.declared.Question.{Question}
 use Rattle.question.specs.declared.Checked.{Checked}
-use Rattle.question.specs.Refusals.{isNumber, twoSided, sidesKnown, targetsWithin, strengthsOrdered, strengthsWithin, upperTargetInSense, upperZero, upperUnused, noDelay, limitAllowed, Check, firstRefusal, plainChecks, refusal}
+use Rattle.question.specs.Refusals.{isNumber, twoSided, sidesKnown, targetsWithin, strengthsOrdered, strengthsWithin, upperTargetInSense, upperZero, upperUnused, limitAllowed, Check, firstRefusal, plainChecks, refusal}
 
 -- ---- accepted: every test is passed
 abbrev pub AllPass : List Check → Type 0
@@ -91,7 +91,6 @@ module _ (x : Encounter) (y : Settings) (z : Question) (e : refusal x y z ≡ Ch
       let t₅ = passed .1 .1 .1 .1 .0 in
       let t₁₄ = passed .1 .1 .1 .1 .1 .0 in
       let t₆ = passed .1 .1 .1 .1 .1 .1 .1 .1 .0 in
-      let times = not (twoSided z) || noDelay z in
       let limits = limitAllowed z in
       record {
         distance = between (negℤ (pos maxDistance)) (pos maxDistance) (x .distance) (and-l r h t₄);
@@ -109,8 +108,8 @@ module _ (x : Encounter) (y : Settings) (z : Question) (e : refusal x y z ≡ Ch
         strengths = t₁₄;
         in-sense = passed .1 .1 .1 .1 .1 .1 .0;
         unused = passed .1 .1 .1 .1 .1 .1 .1 .0;
-        delay = between (pos 0) (pos maxDelay) (z .delay) (and-l (delayWithin (z .delay)) times (and-l (delayWithin (z .delay) && times) limits t₆));
-        limit = and-r (delayWithin (z .delay) && times) limits t₆;
+        delay = between (pos 0) (pos maxDelay) (z .delay) (and-l (delayWithin (z .delay)) limits t₆);
+        limit = and-r (delayWithin (z .delay)) limits t₆;
       }
 
   -- the limit field, within its limits or 65,535

@@ -70,15 +70,12 @@ upperZero z = isNumber (pos 0) (z .«upper_target») && isNumber (pos 0) (z .«u
 abbrev pub upperUnused : Question → Bool
 upperUnused z = twoSided z || upperZero z
 
--- "6 delay or limit outside limits, or a delay when two-sided"
-abbrev pub noDelay : Question → Bool
-noDelay z = isNumber (pos 0) (z .delay)
-
+-- "6 delay or limit outside limits"; "A delay within limits is no longer a ground for 6" when two-sided
 abbrev pub limitAllowed : Question → Bool
 limitAllowed z = limitWithin (z .limit) || isNumber noLimit (z .limit)
 
 abbrev pub timesWithin : Question → Bool
-timesWithin z = (delayWithin (z .delay) && (not (twoSided z) || noDelay z)) && limitAllowed z
+timesWithin z = delayWithin (z .delay) && limitAllowed z
 
 -- a refusal's number, and the test that a question must pass not to get it
 pub record Check : Type 0 where

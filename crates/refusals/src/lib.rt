@@ -2,7 +2,7 @@
 ghost use mathlib.Core.Path.{_≡_};
 ghost use lib.Signed.{leZ};
 ghost use Rattle.limits.specs.Limits.{delayWithin};
-ghost use Rattle.question.specs.Refusals.{targetsWithin, strengthsWithin, targetsOrdered, upperTargetInSense, upperUnused, noDelay, limitAllowed, timesWithin, questionChecks, firstRefusal, refusal};
+ghost use Rattle.question.specs.Refusals.{targetsWithin, strengthsWithin, targetsOrdered, upperTargetInSense, upperUnused, limitAllowed, timesWithin, questionChecks, firstRefusal, refusal};
 use advisory::Sense;
 use limits::MAX_DELAY;
 use limits::MAX_LIMIT;
@@ -85,12 +85,6 @@ fn delay_within(question: Question) -> bool
     (0 <= question.delay) & (question.delay <= MAX_DELAY)
 }
 
-fn no_delay(question: Question) -> bool
-    ensures { λ r. ⌜ r ≡ noDelay question ⌝ }
-{
-    (0 <= question.delay) & (question.delay <= 0)
-}
-
 fn limit_allowed(question: Question) -> bool
     ensures { λ r. ⌜ r ≡ limitAllowed question ⌝ }
 {
@@ -105,10 +99,7 @@ fn times_within(question: Question) -> bool
     if !delay_within(question) {
         return false;
     }
-    if !limit_allowed(question) {
-        return false;
-    }
-    !two_sided(question) | no_delay(question)
+    limit_allowed(question)
 }
 
 // A question's own refusals: 4, 5, 14, 15, 16, 6.

@@ -138,9 +138,7 @@ module _ (x : Encounter) (y : Settings) (encounter : encounterWithin x ≡ true)
     strengths = and-i (strengthWithin (pos (i .strength))) true (within-in (pos≤ (limits .strength-from)) (pos≤ (limits .strength-to))) tt
 
     times : T (timesWithin question)
-    times =
-        let d = delayWithin (pos (i .delay)) in
-        and-i (d && true) true (and-i d true (within-in (0≤pos (i .delay)) (pos≤ (limits .delay-to))) tt) tt
+    times = and-i (delayWithin (pos (i .delay))) true (within-in (0≤pos (i .delay)) (pos≤ (limits .delay-to))) tt
 
     -- the encounter and the settings meet conditions 1 to 3, an instruction meets the rest
     coded-accepted : refusal x y question ≡ Checked.Accepted

@@ -8,7 +8,7 @@ use Rattle.path.specs.declared.SensedQuestion.{SensedQuestion}
 use Rattle.question.specs.declared.Question.{Question}
 use Rattle.coded.specs.declared.CodedQuestion.{CodedQuestion}
 use Rattle.question.specs.StartingSettings.{startingSettings}
-use Rattle.question.specs.Refusals.{isNumber, twoSided, noDelay}
+use Rattle.question.specs.Refusals.{isNumber, twoSided}
 use Rattle.limits.specs.Limits.{noLimit}
 use Rattle.sensed.specs.Sensed.{sensedQuestion}
 use Rattle.judge.specs.Examples.{Example, examples}
@@ -20,7 +20,7 @@ abbrev pub delayedAllowed : Question → Bool
 delayedAllowed z = not (twoSided z) && isNumber noLimit (z .limit)
 
 abbrev pub immediateAllowed : Question → Bool
-immediateAllowed z = delayedAllowed z && noDelay z
+immediateAllowed z = delayedAllowed z && isNumber (pos 0) (z .delay)
 
 -- a question is asked, by code or freely, and passes the test
 abbrev pub asks : (Question → Bool) → CodedQuestion → Bool
