@@ -5,7 +5,7 @@ use Prim.Native.Nat.{ℕ, _+_, _*_, _<_, _≤_}
 use native.Mathlib.Nat.{mul-le-mul}
 use native.Mathlib.Omega.{arith}
 use lib.Dec.{lit≤}
-use lib.IntN.{ℤ, pos, negsuc, _-ℤ_, natAbs}
+use lib.IntN.{ℤ, pos, negsuc, _+ℤ_, _-ℤ_, _*ℤ_, natAbs}
 use lib.Signed.{leZ}
 use mir.Syntax.{w64}
 use mir.Val.{SFits, toZ, ofZ}
@@ -14,7 +14,7 @@ use Rattle.limits.specs.Limits.{maxHeight, maxClosingSpeed, maxHalfHeight, maxS
 use Rattle.integers.specs.Extremes.{max0}
 use Rattle.integers.proofs.Difference.{cond-by}
 use Rattle.integers.proofs.Quotation.{quote}
-use Rattle.integers.proofs.Certificates.{by≤, gap≤}
+use Rattle.integers.proofs.Certificates.{ring, by≤, gap≤}
 use Rattle.integers.proofs.Laws.{maxℤ-above, natAbs-in}
 use Rattle.integers.proofs.Machine.{Reading, bounded, bounded-natural, bounded-word, bounded-absolute, unbounded, equal-to, plain-terms}
 use Rattle.path.specs.declared.SensedQuestion.{SensedQuestion}
@@ -149,8 +149,14 @@ module _ (s : SensedQuestion) (z : Sizes s) where
   abbrev pub read-edge-height : (side : Side) {r : ℤ} → r ≡ edgeHeight side s → Reading r
   read-edge-height side h = equal-to h (bounded-absolute (edgeHeight side s) (maxHeight + maxHalfHeight) (edge-height-size side))
 
-  abbrev pub read-start : (side : Side) {r : ℤ} → r ≡ delayHeight (bend side s) (u s) (d s) 1 → Reading r
-  read-start side h = equal-to h (bounded-absolute (delayHeight (bend side s) (u s) (d s) 1) mostStart (start-size side))
+  -- twice the height at the delay's end: the two speeds' sum times d
+  start-is : (side : Side) → (u s +ℤ speedAfterDelay side s) *ℤ pos (d s) ≡ delayHeight (bend side s) (u s) (d s) 1
+  unfolding delayHeight
+  start-is Lower = ring (e s ∷ d s ∷ []) (u s ∷ []) (λ v. search quote depth 20) tt
+  start-is Upper = ring (e s ∷ d s ∷ []) (u s ∷ []) (λ v. search quote depth 20) tt
+
+  pub rule-edge-is : (side : Side) → pos 2 *ℤ edgeHeight side s -ℤ (u s +ℤ speedAfterDelay side s) *ℤ pos (d s) ≡ ruleEdge side s
+  rule-edge-is side = ap (λ (start : ℤ). pos 2 *ℤ edgeHeight side s -ℤ start) (start-is side)
 
 pub upper-target-size : (s : SensedQuestion) → Sized Upper s → natAbs (upperTarget s) ≤ maxSpeedAfterDelay
 upper-target-size s z =

@@ -52,7 +52,7 @@ pub fn upper_target(s: SensedQuestion) -> i64
     target
 }
 
-// The height during the delay, times 2·m². At d/1 it is twice the height at the delay's end, and whole: halving e·d² could lose half a grain.
+// The height during the delay, times 2·m².
 fn delay_height(side: Side, s: SensedQuestion, n: u64, m: u64) -> i64
     requires { ⌜ Sizes s ⌝ }
     requires { ⌜ InReach Lower n m ⌝ }
@@ -104,15 +104,16 @@ struct AdviceRule {
     edge: i64,
 }
 
-// A side's rule, from the delay's end on.
+// A side's rule, from the delay's end on. Twice the height there is whole, the sum of the two speeds times d: halving e·d² could lose half a grain.
 fn advice_rule(side: Side, s: SensedQuestion) -> AdviceRule
     requires { ⌜ Sized side s ⌝ }
     ensures { λ r. ⌜ r ≡ ruleOf side s ⌝ }
 {
     let speed = speed_after_delay(side, s);
-    let start = delay_height(side, s, s.delay, 1);
     let edge = edge_height(side, s);
-    let edge = 2 * edge - start;
+    let u = s.speed;
+    let d = s.delay as i64;
+    let edge = 2 * edge - (u + speed) * d;
     match side {
         Side::Lower => AdviceRule {
             strength: s.strength,
@@ -167,13 +168,14 @@ fn straight_not_beyond(side: Side, rule: AdviceRule, gap: u64, n: u64, m: u64) -
     requires { ⌜ gap ≡ missing rule ⌝ }
     ensures { λ r. ⌜ r ≡ straightNotBeyond side rule n m ⌝ }
 {
+    let a = rule.strength;
     let q = rule.target;
     let edge = rule.edge;
-    let a = rule.strength as i64;
+    let run = (a * n) as i64;
+    let a = a as i64;
     let g = gap as i64;
-    let n = n as i64;
     let m = m as i64;
-    let straight = 2 * a * q * n - g * g * m;
+    let straight = 2 * q * run - g * g * m;
     let edge = a * m * edge;
     match side {
         Side::Lower => straight <= edge,
@@ -196,17 +198,44 @@ fn rule_not_beyond(side: Side, rule: AdviceRule, n: u64, m: u64) -> bool
     straight_not_beyond(side, rule, gap, n, m)
 }
 
-// Is a side's path "not strictly beyond" the puck's edge at n/m? Up to d it is the delay, then the rule.
+// f against w·h + k: up to d the delay, then the rule.
+fn lower_not_beyond(s: SensedQuestion, n: u64, m: u64) -> bool
+    requires { ⌜ Sizes s ⌝ }
+    requires { ⌜ InReach Lower n m ⌝ }
+    ensures { λ r. ⌜ r ≡ notBeyond Lower s n m ⌝ }
+{
+    let d = s.delay;
+    let end = d * m;
+    if n <= end {
+        return delay_not_beyond(Side::Lower, s, n, m);
+    }
+    let rule = advice_rule(Side::Lower, s);
+    rule_not_beyond(Side::Lower, rule, n - end, m)
+}
+
+// j against w·h − k, likewise.
+fn upper_not_beyond(s: SensedQuestion, n: u64, m: u64) -> bool
+    requires { ⌜ Sized Upper s ⌝ }
+    requires { ⌜ InReach Upper n m ⌝ }
+    ensures { λ r. ⌜ r ≡ notBeyond Upper s n m ⌝ }
+{
+    let d = s.delay;
+    let end = d * m;
+    if n <= end {
+        return delay_not_beyond(Side::Upper, s, n, m);
+    }
+    let rule = advice_rule(Side::Upper, s);
+    rule_not_beyond(Side::Upper, rule, n - end, m)
+}
+
+// Is a side's path "not strictly beyond" the puck's edge at n/m? The sides are two functions, as a question has a side once: one for both costs a hundred instructions a verdict.
 pub fn not_beyond(side: Side, s: SensedQuestion, n: u64, m: u64) -> bool
     requires { ⌜ Sized side s ⌝ }
     requires { ⌜ InReach side n m ⌝ }
     ensures { λ r. ⌜ r ≡ notBeyond side s n m ⌝ }
 {
-    let d = s.delay;
-    let end = d * m;
-    if n <= end {
-        return delay_not_beyond(side, s, n, m);
+    match side {
+        Side::Lower => lower_not_beyond(s, n, m),
+        Side::Upper => upper_not_beyond(s, n, m),
     }
-    let rule = advice_rule(side, s);
-    rule_not_beyond(side, rule, n - end, m)
 }

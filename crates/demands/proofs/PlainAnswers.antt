@@ -27,6 +27,7 @@ use Rattle.judge.specs.Answers.{checkedAnswer, answer, answerRecord}
 use Rattle.judge.specs.Demand3 as judge
 use Rattle.judge.proofs.Demand3.{judged, demand-3, one-sided-exactly, two-sided-exactly}
 use Rattle.judge.proofs.AnswerRecords.{record-determines}
+use Rattle.judge.proofs.WithoutDelay.{answer-without-delay}
 use Rattle.region.proofs.VerdictRegion.{clear-is-delayed-region, clear-is-immediate-region}
 use Rattle.demands.specs.Demand2.{Demand2}
 use Rattle.demands.specs.Demand3.{WithinLimit, NotStrictlyBeyond, ConflictAt, SomeConflict, ConflictOnEachSide, SaysConflict, Shown, Said, Demand3}
@@ -118,6 +119,7 @@ answer-right x y z = record {
   refused = λ number e. ap (λ (k : Checked). checkedAnswer k (verdict z (sensedQuestion x y z))) e;
   judged = judged-as x y z;
   one-sided = region x y z;
+  without-delay = answer-without-delay x y z;
 }
 
 pub rightly : (x : Encounter) (y : Settings) (z : Question) (r : Answer) → answerRecord r ≡ answerRecord (answer x y z) → RightlyAnswered x y z r

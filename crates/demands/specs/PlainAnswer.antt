@@ -5,6 +5,7 @@ use mathlib.Core.Bool.{cond, false}
 use mathlib.Core.List.{List, [], _∷_, _++_}
 use Prim.Native.Nat.{ℕ}
 use lib.Dec.{eqb}
+use lib.IntN.{pos}
 use Rattle.question.specs.declared.Encounter.{Encounter}
 use Rattle.question.specs.declared.Settings.{Settings}
 use Rattle.question.specs.declared.Question.{Question}
@@ -14,6 +15,7 @@ use Rattle.sensed.specs.Sensed.{sensedQuestion}
 use Rattle.verdict.specs.declared.Verdict.{Verdict}
 use Rattle.judge.specs.declared.Answer.{Answer}
 use Rattle.judge.specs.Answers.{AnswerRecord, answers, answerRecord}
+use Rattle.judge.proofs.WithoutDelay.{earlierAnswer}
 use Rattle.binding.specs.declared.JudgeResult.{JudgeResult}
 use Rattle.demands.specs.Demand2.{Demand2}
 use Rattle.demands.specs.Demand3.{Demand3}
@@ -27,6 +29,8 @@ pub record RightlyAnswered (x : Encounter) (y : Settings) (z : Question) (answer
   pub refused : (number : ℕ) → refusal x y z ≡ Refused number → answer ≡ Answer.Refused number
   pub judged : refusal x y z ≡ Accepted → JudgedAs x y z answer
   pub one-sided : refusal x y z ≡ Accepted → twoSided z ≡ false → Demand2 x y z answer
+  -- "With delay 0 all answers equal the earlier ones" (document 02, "Two-sided with a slow pilot")
+  pub without-delay : z .delay ≡ pos 0 → answer ≡ earlierAnswer x y z
 
 -- the answer record in the struct of numbers that C and Rust get
 abbrev pub lowerNumbers : JudgeResult → List ℕ

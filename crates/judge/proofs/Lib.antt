@@ -4,3 +4,4 @@ pub mod AnswerRecords
 pub mod Demand3
 pub mod ExamplesRight
 pub mod Mirror
+pub mod WithoutDelay

@@ -1,4 +1,4 @@
--- "Marked for proof": M1 to M15, in one table.
+-- "Marked for proof": M1 to M15, in one table; and three of document 02's two-sided questions with a delay.
 use mathlib.Core.List.{List, [], _∷_}
 use Prim.Native.Nat.{ℕ}
 use Prim.Native.String.{String}
@@ -67,4 +67,17 @@ examples =
     ∷ example "M13" (meet (pos 0) (pos 6000) (pos 0) (pos 0)) betweenZero (answers 67 (0 ∷ 0 ∷ 1 ∷ 0 ∷ 0 ∷ 1 ∷ []))
     ∷ example "M14" (meet (negℤ (pos 30001)) (pos 0) (pos 10000) (pos 0)) (climb (pos 0) noLimit) (clear 1)
     ∷ example "M15" (meet (negℤ (pos 30000)) (negℤ (pos 6000)) (pos 10000) (pos 0)) (climb (pos 0) noLimit) (conflictAt 0 0 1)
+    ∷ []
+
+-- Two-sided with a delay of 8 s: "sense climb, both targets 0", both strengths 500; e is 966, and the window from 5 s to 11 s. The upper path accelerates to 7,728
+-- and keeps that. D1: beyond the puck's edge throughout. D2: the edge touches at 11 s alone. D3: at 8 s too, the end of the delay, and 8 s is no instant of the
+-- upper rule.
+abbrev pub slowly : CodedQuestion
+slowly = freely (record { sides = pos 2; sense = pos 1; target = pos 0; «upper_target» = pos 0; strength = pos 500; «upper_strength» = pos 500; delay = pos 8; limit = noLimit })
+
+unfoldable pub delayedExamples : List Example
+delayedExamples =
+    example "D1" (meet (pos 80000) (pos 60097) (pos 10000) (pos 0)) slowly (clear 2)
+    ∷ example "D2" (meet (pos 80000) (pos 60096) (pos 10000) (pos 0)) slowly (answers 67 (5 ∷ 0 ∷ 1 ∷ 11 ∷ 0 ∷ 1 ∷ []))
+    ∷ example "D3" (meet (pos 80000) (pos 30000) (pos 10000) (pos 0)) slowly (answers 67 (5 ∷ 0 ∷ 1 ∷ 11 ∷ 0 ∷ 1 ∷ []))
     ∷ []

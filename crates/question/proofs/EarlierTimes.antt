@@ -3,6 +3,8 @@
 use mathlib.Core.Path.{_≡_, refl, sym, ap, _∙_}
 use mathlib.Core.Bool.{Bool, true, false, cond, not, _&&_, _||_, and-true}
 use mathlib.Core.List.{List, [], _∷_}
+use lib.Dec.{T}
+use lib.Ieee.Fits.{and-i}
 use lib.IntN.{ℤ, pos}
 use Rattle.limits.specs.Limits.{delayWithin}
 use Rattle.question.specs.declared.Encounter.{Encounter}
@@ -34,6 +36,10 @@ checksWith times x y z =
 
 unfoldable pub earlierRefusal : Encounter → Settings → Question → Checked
 earlierRefusal x y z = firstRefusal (checksWith (earlierTimesWithin z) x y z)
+
+-- ---- "A delay within limits is no longer a ground for 6"
+pub delay-no-ground : (z : Question) → T (delayWithin (z .delay)) → T (limitAllowed z) → T (timesWithin z)
+delay-no-ground z delay limit = and-i (delayWithin (z .delay)) (limitAllowed z) delay limit
 
 -- ---- what stays
 allowed : (z : Question) → (not (twoSided z) || noDelay z) ≡ true → earlierTimesWithin z ≡ timesWithin z

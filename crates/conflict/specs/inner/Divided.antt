@@ -2,7 +2,7 @@
 -- The comparisons of `path` with a common factor of their two sides divided out. `path` compares times 2 × a × m² (upper: 2 × b × m²), which does
 -- not fit 64 bits. The two sides for an arc share the strength, which leaves 2 × m²; those for a straight share m, which leaves 2 × a × m.
 use mathlib.Core.Bool.{Bool}
-use Prim.Native.Nat.{ℕ}
+use Prim.Native.Nat.{ℕ, _*_}
 use lib.IntN.{ℤ, pos, negℤ, _+ℤ_, _-ℤ_, _*ℤ_}
 use lib.Signed.{leZ}
 use Rattle.integers.specs.Extremes.{max0}
@@ -69,5 +69,5 @@ arcNotBeyond side rule n m =
 abbrev pub straightNotBeyond : Side → AdviceRule → ℕ → ℕ → Bool
 straightNotBeyond side rule n m =
     heightNotBeyond side
-    (pos 2 *ℤ pos (rule .strength) *ℤ rule .target *ℤ pos n -ℤ pos (missing rule) *ℤ pos (missing rule) *ℤ pos m)
+    (pos 2 *ℤ rule .target *ℤ pos (rule .strength * n) -ℤ pos (missing rule) *ℤ pos (missing rule) *ℤ pos m)
     (pos (rule .strength) *ℤ pos m *ℤ rule .edge)

@@ -4,6 +4,7 @@ use mathlib.Core.Path.{_≡_}
 use mathlib.Core.Bool.{Bool, true, false, not, _&&_, Bool-discrete}
 use mathlib.Core.List.{List, filter}
 use lib.Dec.{eqb}
+use lib.IntN.{pos}
 use Rattle.path.specs.declared.SensedQuestion.{SensedQuestion}
 use Rattle.question.specs.declared.Question.{Question}
 use Rattle.coded.specs.declared.CodedQuestion.{CodedQuestion}
