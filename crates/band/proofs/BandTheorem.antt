@@ -13,23 +13,23 @@ use Rattle.path.specs.declared.Side.the-variants.{Lower, Upper}
 use Rattle.path.specs.Letters.{k, wh, q, a, upper-q, b}
 use Rattle.path.specs.Paths.{lowerPath, upperPath}
 use Rattle.path.specs.Conflict.{Conflict, ConflictExists}
-use Rattle.band.specs.Band.{Height, lowerHeight, upperHeight, lowered, raised, Below, Above, bandAt, Outside, WindowTime, AlwaysOutside}
+use Rattle.band.specs.Band.{Height, Below, Above, bandAt, Outside, WindowTime, AlwaysOutside}
 use Rattle.band.proofs.PathOrder.{paths-ordered}
 use Rattle.band.proofs.Meeting.{Meeting, meeting}
 
 -- ---- inside the band is a conflict on both sides at once
 module _ (s : SensedQuestion) (n m : ℕ) where
   abbrev from : Height
-  from = lowered (k s) (lowerHeight s n m)
+  from = bandAt s n m .from
 
   abbrev to : Height
-  to = raised (k s) (upperHeight s n m)
+  to = bandAt s n m .to
 
   lower-inside : Conflict Lower s n m → (from .number) ≤ℤ (wh s *ℤ pos (from .divisor))
-  lower-inside c = by≤ (a s ∷ m ∷ k s ∷ []) (wh s ∷ lowerPath s n m ∷ []) (gap≤ (c .vertical)) (λ v. search quote depth 20) tt
+  lower-inside c = by≤ (a s ∷ b s ∷ m ∷ k s ∷ []) (wh s ∷ lowerPath s n m ∷ upperPath s n m ∷ []) (gap≤ (c .vertical)) (λ v. search quote depth 20) tt
 
   upper-inside : Conflict Upper s n m → (wh s *ℤ pos (to .divisor)) ≤ℤ (to .number)
-  upper-inside c = by≤ (b s ∷ m ∷ k s ∷ []) (wh s ∷ upperPath s n m ∷ []) (gap≤ (c .vertical)) (λ v. search quote depth 20) tt
+  upper-inside c = by≤ (a s ∷ b s ∷ m ∷ k s ∷ []) (wh s ∷ lowerPath s n m ∷ upperPath s n m ∷ []) (gap≤ (c .vertical)) (λ v. search quote depth 20) tt
 
   not-outside : Conflict Lower s n m → Conflict Upper s n m → ¬ Outside (wh s) (bandAt s n m)
   not-outside x y o = ⊎-elim (λ (l : Below (wh s) from). clashℤ l (lower-inside x)) (λ (l : Above (wh s) to). clashℤ l (upper-inside y)) o
@@ -37,13 +37,13 @@ module _ (s : SensedQuestion) (n m : ℕ) where
   inside-lower : WindowTime s n m → (from .number) ≤ℤ (wh s *ℤ pos (from .divisor)) → Conflict Lower s n m
   inside-lower w l = record {
     window = record { near = w .near; intime = w .intime };
-    vertical = by≤ (a s ∷ m ∷ k s ∷ []) (wh s ∷ lowerPath s n m ∷ []) (gap≤ l) (λ v. search quote depth 20) tt;
+    vertical = by≤ (a s ∷ b s ∷ m ∷ k s ∷ []) (wh s ∷ lowerPath s n m ∷ upperPath s n m ∷ []) (gap≤ l) (λ v. search quote depth 20) tt;
   }
 
   inside-upper : WindowTime s n m → (wh s *ℤ pos (to .divisor)) ≤ℤ (to .number) → Conflict Upper s n m
   inside-upper w l = record {
     window = record { near = w .near; intime = w .intime };
-    vertical = by≤ (b s ∷ m ∷ k s ∷ []) (wh s ∷ upperPath s n m ∷ []) (gap≤ l) (λ v. search quote depth 20) tt;
+    vertical = by≤ (a s ∷ b s ∷ m ∷ k s ∷ []) (wh s ∷ lowerPath s n m ∷ upperPath s n m ∷ []) (gap≤ l) (λ v. search quote depth 20) tt;
   }
 
 -- ---- without a conflict on each side it is outside, whatever the paths

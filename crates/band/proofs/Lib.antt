@@ -5,3 +5,4 @@ pub mod Meeting
 pub mod BandTheorem
 pub mod AcceptedBand
 pub mod WhyTested
+pub mod WhyThick

@@ -38,10 +38,10 @@ abbrev pub climb-to-10 : ℤ → ℤ → Question
 climb-to-10 target strength = record { sides = pos 2; sense = pos 1; target = pos 10; «upper_target» = target; strength = pos 2; «upper_strength» = strength; delay = pos 0; limit = pos 4 }
 
 -- the statement fails: a conflict on each side, and always outside the band
-pub record Fails (z : Question) : Type 0 where
-  pub lower : ConflictExists Lower (sensedQuestion above-7 puck-1 z)
-  pub upper : ConflictExists Upper (sensedQuestion above-7 puck-1 z)
-  pub outside : AlwaysOutside (sensedQuestion above-7 puck-1 z)
+pub record Fails (x : Encounter) (y : Settings) (z : Question) : Type 0 where
+  pub lower : ConflictExists Lower (sensedQuestion x y z)
+  pub upper : ConflictExists Upper (sensedQuestion x y z)
+  pub outside : AlwaysOutside (sensedQuestion x y z)
 
 abbrev pub weak : Question
 weak = climb-to-10 (pos 10) (pos 1)
@@ -80,7 +80,7 @@ module _ (s : SensedQuestion) (m : ℕ) where
   upper-to : {j : ℤ} → j ≤ℤ upperPath s (3 * m) m → j ≤ℤ (pos m *ℤ pos m *ℤ upperPath s 3 1)
   upper-to l = ≤ℤ-trans l (≤ℤ-of-≡ (at-three (upperPath s) (upper-scale s) m))
 
-pub needs-14 : (refusal above-7 puck-1 weak ≡ Checked.Refused 14) × Fails weak
+pub needs-14 : (refusal above-7 puck-1 weak ≡ Checked.Refused 14) × Fails above-7 puck-1 weak
 unfolding refusal sensedQuestion adviceGain delayHeight continued
 needs-14 =
     let s = sensedQuestion above-7 puck-1 weak in
@@ -91,7 +91,7 @@ needs-14 =
       outside = λ n m w. apart 1 9 n m (lowerPath s n m) (upperPath s n m) (w .divisor) (omega arith) (λ l. lower-from s m (rises 2 2 10 level (3 * m) n m l)) (λ l. upper-to s m (rises 1 1 10 level n (3 * m) m l));
     })
 
-pub needs-15 : (refusal above-7 puck-1 slow ≡ Checked.Refused 15) × Fails slow
+pub needs-15 : (refusal above-7 puck-1 slow ≡ Checked.Refused 15) × Fails above-7 puck-1 slow
 unfolding refusal sensedQuestion adviceGain delayHeight continued
 needs-15 =
     let s = sensedQuestion above-7 puck-1 slow in
