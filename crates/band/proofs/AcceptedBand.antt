@@ -7,7 +7,7 @@ use mathlib.Core.Logic.{_↔_, Iff·symm, Iff·trans}
 use Prim.Native.Nat.{ℕ, _≤_}
 use lib.Dec.{T}
 use lib.Ieee.Fits.{and-r}
-use lib.IntN.{ℤ, pos, _-ℤ_}
+use lib.IntN.{ℤ, _-ℤ_}
 use lib.Signed.{_≤ℤ_, leZ-yes}
 use Rattle.limits.specs.Limits.{strengthWithin}
 use Rattle.integers.specs.Extremes.{max0}

@@ -2,9 +2,9 @@
 -- premises are a ≤ b, that the targets are in order, b ≥ 1, and k ≥ 1. Assumes nothing.
 use mathlib.Core.List.{[], _∷_}
 use mathlib.Core.Logic.{_↔_, inl, inr, ⊎-elim}
-use Prim.Native.Nat.{ℕ, _*_, _≤_}
-use lib.IntN.{ℤ, pos, _+ℤ_, _-ℤ_, _*ℤ_}
-use lib.Signed.{_≤ℤ_, _<ℤ_, clashℤ}
+use Prim.Native.Nat.{ℕ, _≤_}
+use lib.IntN.{ℤ, pos, _*ℤ_}
+use lib.Signed.{_≤ℤ_, clashℤ}
 use Rattle.integers.proofs.Quotation.{quote}
 use Rattle.integers.proofs.Certificates.{by≤, gap≤, split<}
 use Rattle.instant.specs.Order.{_÷_}
@@ -15,7 +15,7 @@ use Rattle.path.specs.Paths.{lowerPath, upperPath}
 use Rattle.path.specs.Conflict.{Conflict, ConflictExists}
 use Rattle.band.specs.Band.{Height, Below, Above, bandAt, Outside, WindowTime, AlwaysOutside}
 use Rattle.band.proofs.PathOrder.{paths-ordered}
-use Rattle.band.proofs.Meeting.{Meeting, meeting}
+use Rattle.band.proofs.Meeting.{meeting}
 
 -- ---- inside the band is a conflict on both sides at once
 module _ (s : SensedQuestion) (n m : ℕ) where

@@ -6,10 +6,10 @@ use mathlib.Core.List.{[], _∷_}
 use mathlib.Core.Logic.{inl, inr, ⊎-elim}
 use Prim.Native.Nat.{ℕ, _+_, _*_, _-_, _<_, _≤_}
 use native.Mathlib.Omega.{arith}
-use lib.IntN.{ℤ, pos, _+ℤ_, _-ℤ_, _*ℤ_}
-use lib.Signed.{_≤ℤ_, _<ℤ_, leZ-yes}
+use lib.IntN.{ℤ, pos, _*ℤ_}
+use lib.Signed.{_≤ℤ_, leZ-yes}
 use Rattle.integers.proofs.Quotation.{quote}
-use Rattle.integers.proofs.Certificates.{by<, gap≤, gap<, _⊞_, _⊠_, 0≤pos, pos≤}
+use Rattle.integers.proofs.Certificates.{by<, gap≤, _⊞_, _⊠_, 0≤pos, pos≤}
 use Rattle.integers.proofs.Laws.{≤ℤ-of-≡, ≤ℤ-trans, split≤}
 use Rattle.instant.specs.Order.{_÷_}
 use Rattle.path.specs.declared.SensedQuestion.{SensedQuestion}

@@ -6,15 +6,13 @@ use mathlib.Core.Logic.{_⊎_, inl, inr, ⊎-elim}
 use Prim.Native.Nat.{ℕ, zero, suc, _+_, _*_, _-_, _<_, _≤_}
 use native.Mathlib.Nat.{mul-pos, mul-le-mul-left, mul-le-mul-right}
 use native.Mathlib.Omega.{arith}
-use lib.IntN.{ℤ, pos, _+ℤ_, _-ℤ_, _*ℤ_}
-use lib.Signed.{_≤ℤ_, _<ℤ_, leZ-yes}
+use lib.IntN.{ℤ, pos, _*ℤ_}
+use lib.Signed.{leZ-yes}
 use Rattle.integers.proofs.Quotation.{quote}
 use Rattle.integers.proofs.Certificates.{ring, modulo, by<, gap≤, _⊠_, 0≤pos, pos≤}
 use Rattle.integers.proofs.Laws.{split≤}
 use Rattle.instant.specs.Order.{_÷_}
-use Rattle.path.specs.declared.Side.the-variants.{Lower, Upper}
-use Rattle.path.specs.Paths.{adviceGain, delayHeight, continued, lowerPath, upperPath}
-use Rattle.path.specs.Conflict.{ConflictExists}
+use Rattle.path.specs.Paths.{adviceGain, delayHeight, continued, lowerPath}
 use Rattle.path.proofs.AdviceRule.{gain-zero, gain-arc}
 use Rattle.path.proofs.Continued.{continued-after}
 use Rattle.question.specs.declared.Encounter.{Encounter}
@@ -23,7 +21,7 @@ use Rattle.question.specs.declared.Question.{Question}
 use Rattle.question.specs.declared.Checked.{Checked}
 use Rattle.question.specs.Refusals.{refusal}
 use Rattle.sensed.specs.Sensed.{sensedQuestion}
-use Rattle.band.specs.Band.{lowered, raised, Outside, AlwaysOutside}
+use Rattle.band.specs.Band.{lowered, raised, Outside}
 use Rattle.band.proofs.WhyTested.{climb-to-10, Fails}
 
 -- ---- √2 is no fraction: n² = 2*m² has a solution with smaller numbers
