@@ -1,4 +1,4 @@
-/* A host in C: judges questions of plain numbers, draws one, and answers sheets. `compare/hosts` builds and runs it; by hand, from the repository's root:
+/* A host in C: judges questions of plain numbers, draws one, judges flights, and answers sheets. `compare/hosts` builds and runs it; by hand, from the repository's root:
  *     rt staticlib binding
  *     cc -Iinclude -o host examples/host.c target/staticlib/libbinding.a && ./host examples/whole_example.sheet
  */
@@ -55,6 +55,13 @@ static void point(uint64_t second)
     printf("point: refusal %" PRIu64 ", time %.0f, height %.0f\n", answer.refusal, answer.time, answer.height);
 }
 
+/* M5, climb to 0 at 500: a candidate's flight against it. */
+static void fly(const char *name, const int64_t *flight, size_t length)
+{
+    FlightResult answer = judge_flight(0, -7000, 10000, -1000, 0, 30000, 6000, 966, LIFGORUND_CLIMB, 0, 500, 0, LIFGORUND_NO_LIMIT, flight, length);
+    printf("%s: refusal %" PRIu64 ", obeys %" PRIu64 ", inside %" PRIu64 ", second %" PRIu64 "\n", name, answer.refusal, answer.obeys, answer.inside, answer.second);
+}
+
 static void answer(const char *name, const uint8_t *sheet, size_t length, size_t room)
 {
     static uint8_t area[LIFGORUND_AMPLE_AREA];
@@ -81,6 +88,12 @@ int main(int argc, char **argv)
     draw();
     point(15);
     point(LIFGORUND_LAST_SECOND + 1);
+    const int64_t just[] = {500, 2, 0, 5};
+    const int64_t quick[] = {2000, 1, 0, 6};
+    fly("M5, 500 for 2 s", just, 4);
+    fly("M5, 2,000 for 1 s", quick, 4);
+    fly("three numbers", just, 3);
+    fly("no flight", NULL, 0);
     answer("whole example", sheet, length, LIFGORUND_AMPLE_AREA);
     answer("cut short", sheet, length - 1, LIFGORUND_AMPLE_AREA);
     answer("area of 12 bytes", sheet, length, 12);

@@ -1,4 +1,4 @@
-"""A host in Python: judges questions of plain numbers, draws one, and answers sheets. `compare/hosts` builds the shared library and runs it; by hand, from
+"""A host in Python: judges questions of plain numbers, draws one, judges flights, and answers sheets. `compare/hosts` builds the shared library and runs it; by hand, from
 the repository's root:
     rt staticlib binding
     cc -shared -o liblifgorund.so -Wl,--whole-archive target/staticlib/libbinding.a -Wl,--no-whole-archive
@@ -32,6 +32,10 @@ class PointResult(ctypes.Structure):
     _fields_ = [("refusal", ctypes.c_uint64), ("time", ctypes.c_double), ("height", ctypes.c_double)]
 
 
+class FlightResult(ctypes.Structure):
+    _fields_ = [(name, ctypes.c_uint64) for name in ("refusal", "obeys", "inside", "second")]
+
+
 class SheetResult(ctypes.Structure):
     _fields_ = [("refusal", ctypes.c_uint64), ("length", ctypes.c_uint64)]
 
@@ -43,6 +47,8 @@ library.screen_drawing.argtypes = [ctypes.c_int64] * 16
 library.screen_drawing.restype = DrawingResult
 library.screen_point.argtypes = [ctypes.c_int64] * 16 + [ctypes.c_uint64]
 library.screen_point.restype = PointResult
+library.judge_flight.argtypes = [ctypes.c_int64] * 13 + [ctypes.POINTER(ctypes.c_int64), ctypes.c_size_t]
+library.judge_flight.restype = FlightResult
 library.answer_sheet_bytes.argtypes = [ctypes.c_char_p, ctypes.c_size_t, ctypes.c_char_p, ctypes.c_size_t]
 library.answer_sheet_bytes.restype = SheetResult
 
@@ -79,6 +85,13 @@ def point(second):
     print(f"point: refusal {answer.refusal}, time {answer.time:.0f}, height {answer.height:.0f}")
 
 
+def fly(name, flight):
+    """M5, climb to 0 at 500: a candidate's flight against it."""
+    numbers = (ctypes.c_int64 * len(flight))(*flight)
+    answer = library.judge_flight(0, -7000, 10000, -1000, 0, 30000, 6000, 966, CLIMB, 0, 500, 0, NO_LIMIT, numbers, len(flight))
+    print(f"{name}: refusal {answer.refusal}, obeys {answer.obeys}, inside {answer.inside}, second {answer.second}")
+
+
 def answer(name, sheet, room):
     area = ctypes.create_string_buffer(room) if room else None
     result = library.answer_sheet_bytes(sheet, len(sheet or b""), area, room)
@@ -95,6 +108,10 @@ show("strength 0", climb(32250, 0))
 draw()
 point(15)
 point(LAST_SECOND + 1)
+fly("M5, 500 for 2 s", [500, 2, 0, 5])
+fly("M5, 2,000 for 1 s", [2000, 1, 0, 6])
+fly("three numbers", [500, 2, 0])
+fly("no flight", [])
 answer("whole example", sheet, AMPLE_AREA)
 answer("cut short", sheet[:-1], AMPLE_AREA)
 answer("area of 12 bytes", sheet, 12)

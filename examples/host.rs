@@ -1,4 +1,4 @@
-//! A host in Rust: judges questions of plain numbers, draws one, and answers sheets. `compare/hosts` builds and runs it; by hand, from the repository's root:
+//! A host in Rust: judges questions of plain numbers, draws one, judges flights, and answers sheets. `compare/hosts` builds and runs it; by hand, from the repository's root:
 //!     rt staticlib binding
 //!     rustc -L native=target/staticlib -o host examples/host.rs && ./host examples/whole_example.sheet
 //! include/lifgorund.h says what each argument and each field is.
@@ -54,6 +54,14 @@ struct PointResult {
 }
 
 #[repr(C)]
+struct FlightResult {
+    refusal: u64,
+    obeys: u64,
+    inside: u64,
+    second: u64,
+}
+
+#[repr(C)]
 struct SheetResult {
     refusal: u64,
     length: u64,
@@ -79,6 +87,12 @@ unsafe extern "C" {
         r: i64, h: i64, c: i64, v: i64, vi: i64, p: i64, k: i64, e: i64, sides: i64, sense: i64,
         target: i64, upper_target: i64, strength: i64, upper_strength: i64, delay: i64, limit: i64, second: u64,
     ) -> PointResult;
+
+    #[rustfmt::skip]
+    fn judge_flight(
+        r: i64, h: i64, c: i64, v: i64, vi: i64, p: i64, k: i64, e: i64, sense: i64,
+        target: i64, strength: i64, delay: i64, limit: i64, flight: *const i64, flight_length: usize,
+    ) -> FlightResult;
 
     fn answer_sheet_bytes(sheet: *const u8, sheet_length: usize, area: *mut u8, area_length: usize) -> SheetResult;
 }
@@ -126,6 +140,13 @@ fn point(second: u64) {
     println!("point: refusal {}, time {}, height {}", answer.refusal, answer.time, answer.height);
 }
 
+/// M5, climb to 0 at 500: a candidate's flight against it.
+fn fly(name: &str, flight: &[i64]) {
+    // SAFETY: a slice is valid for its length.
+    let answer = unsafe { judge_flight(0, -7_000, 10_000, -1_000, 0, 30_000, 6_000, 966, CLIMB, 0, 500, 0, NO_LIMIT, flight.as_ptr(), flight.len()) };
+    println!("{name}: refusal {}, obeys {}, inside {}, second {}", answer.refusal, answer.obeys, answer.inside, answer.second);
+}
+
 fn answer(name: &str, sheet: &[u8], room: usize) {
     let mut area = vec![0; room];
     match answer_sheet(sheet, &mut area) {
@@ -147,6 +168,10 @@ fn main() -> std::io::Result<()> {
     draw();
     point(15);
     point(LAST_SECOND + 1);
+    fly("M5, 500 for 2 s", &[500, 2, 0, 5]);
+    fly("M5, 2,000 for 1 s", &[2_000, 1, 0, 6]);
+    fly("three numbers", &[500, 2, 0]);
+    fly("no flight", &[]);
     answer("whole example", &sheet, AMPLE_AREA);
     answer("cut short", &sheet[..sheet.len() - 1], AMPLE_AREA);
     answer("area of 12 bytes", &sheet, 12);

@@ -72,7 +72,8 @@ enum {
     LIFGORUND_BAD_STRENGTH = 14,          /* strength outside limits; two-sided also the upper strength, or one below the strength */
     LIFGORUND_UPPER_TARGET_SHORT = 15,    /* two-sided: the upper target falls short of the target in the sense */
     LIFGORUND_UPPER_FIELD_GIVEN = 16,     /* one-sided: an upper field is not 0 */
-    LIFGORUND_NEVER_ISSUED = 17           /* code 10 (MCL) to an ownship going down, or code 9 (MDES) to one going up */
+    LIFGORUND_NEVER_ISSUED = 17,          /* code 10 (MCL) to an ownship going down, or code 9 (MDES) to one going up */
+    LIFGORUND_BAD_FLIGHT = 18             /* no stretch or more than 64, numbers that are not pairs, a stretch outside its limits, a total above 600 */
 };
 
 /* Lengths in bytes: of the longest sheet, and of an area that is long enough for the answer to any sheet. */
@@ -165,6 +166,22 @@ typedef struct PointResult {
 PointResult screen_point(
     int64_t r, int64_t h, int64_t c, int64_t v, int64_t vi, int64_t p, int64_t k, int64_t e, int64_t sides, int64_t sense,
     int64_t target, int64_t upper_target, int64_t strength, int64_t upper_strength, int64_t delay, int64_t limit, uint64_t second);
+
+/* What judge_flight answers. What is not used is 0. */
+typedef struct FlightResult {
+    uint64_t refusal; /* LIFGORUND_ACCEPTED, or one of 1, 2, 3, 4, 5, 14, 6, 18 */
+    uint64_t obeys;   /* 1 if the flight obeys the advice, else 0 */
+    uint64_t inside;  /* 1 if it is inside the puck, edge included, at a time up to its end, limit or not; else 0 */
+    uint64_t second;  /* where it is inside: the least whole second n with such a time at n or later but before n + 1 */
+} FlightResult;
+
+/* Judges a candidate's flight against a one-sided advice. The flight is numbers in pairs, each a stretch: an upward acceleration in grains/s^2, -2,000 to
+ * 2,000, and whole seconds, 1 to 600; 1 to 64 stretches, at most 600 seconds in total. It starts with the ownship's speed v. flight_length counts the numbers, and
+ * is twice the number of stretches. Every argument may have any value, and any numbers may stand in the flight, which is only read, during the call alone:
+ * it must be valid for its length, and nothing else may write to it during the call. A pointer whose length is 0 is not followed, and may be null. */
+FlightResult judge_flight(
+    int64_t r, int64_t h, int64_t c, int64_t v, int64_t vi, int64_t p, int64_t k, int64_t e, int64_t sense, int64_t target, int64_t strength, int64_t delay,
+    int64_t limit, const int64_t *flight, size_t flight_length);
 
 /* What answer_sheet_bytes answers. */
 typedef struct SheetResult {

@@ -1,10 +1,11 @@
-//! What a run checks of each question and sheet without the proved judge, and what it counts.
+//! What a run checks of each question, flight and sheet without the proved judge, and what it counts.
 
 use crate::catalogue::CATALOGUE;
 use crate::edges::{self, EDGES, POSITIONS};
 use crate::exact::Ratio;
 use crate::examples::Table1;
 use crate::figures;
+use crate::flight::{self, FLIGHT_CLASSES, FlightAnswer, FlightCase, Seen};
 use crate::generate::{self, AREA_FORMS, AreaForm, Random, SHEET_FORMS, SheetCase, SheetForm};
 use crate::independent::{
     Accepted, Answer, FIELDS, Moment, NAMES, Question, REFUSALS, Side, judge, judge_accepted,
@@ -42,6 +43,8 @@ pub struct Tally {
     drawing_classes: [u64; DRAWING_CLASSES.len()],
     points: u64,
     point_classes: [u64; POINT_CLASSES.len()],
+    flights: u64,
+    flight_classes: [u64; FLIGHT_CLASSES.len()],
     sheets: u64,
     sheet_forms: [u64; SHEET_FORMS.len()],
     area_forms: [u64; AREA_FORMS.len()],
@@ -83,6 +86,8 @@ impl Default for Tally {
             drawing_classes: [0; DRAWING_CLASSES.len()],
             points: 0,
             point_classes: [0; POINT_CLASSES.len()],
+            flights: 0,
+            flight_classes: [0; FLIGHT_CLASSES.len()],
             sheets: 0,
             sheet_forms: [0; SHEET_FORMS.len()],
             area_forms: [0; AREA_FORMS.len()],
@@ -328,6 +333,20 @@ impl Tally {
         point
     }
 
+    /// Counts a flight, holds its answer against what is said of each instant, and gives it.
+    pub fn flight(&mut self, case: &FlightCase, random: &mut Random) -> FlightAnswer {
+        if let Some(fault) = flight::unsound(case, random) {
+            let FlightCase { question, flight } = case;
+            self.differ(|| format!("question {question}\n  flight {flight:?}\n  {fault}"));
+        }
+        let seen = Seen::of(case);
+        self.flights += 1;
+        for (n, (_, holds)) in self.flight_classes.iter_mut().zip(FLIGHT_CLASSES) {
+            *n += u64::from(holds(&seen));
+        }
+        seen.answer
+    }
+
     /// Counts a sheet, and gives its expected outcome and the area before and after.
     pub fn sheet(&mut self, case: &SheetCase) -> ExpectedSheet {
         let whole = sheet::answer_bytes(&case.sheet);
@@ -388,6 +407,9 @@ impl Tally {
         if self.drawings > 0 {
             self.report_screen(&mut out);
         }
+        if self.flights > 0 {
+            self.report_flights(&mut out);
+        }
         if self.sheets > 0 {
             self.report_sheets(&mut out);
         }
@@ -446,6 +468,13 @@ impl Tally {
         }
         out.title(&format!("screen points: {}", self.points));
         for (n, (text, _)) in self.point_classes.iter().zip(POINT_CLASSES) {
+            out.line(*n, text);
+        }
+    }
+
+    fn report_flights(&self, out: &mut Report) {
+        out.title(&format!("flights: {}", self.flights));
+        for (n, (text, _)) in self.flight_classes.iter().zip(FLIGHT_CLASSES) {
             out.line(*n, text);
         }
     }

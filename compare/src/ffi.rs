@@ -3,6 +3,7 @@
 //!
 //! Nothing checks these declarations against the library. Every function takes any values.
 
+use crate::flight::{FlightAnswer, FlightCase, Flown};
 use crate::independent::{Answer, Question, Time};
 use crate::screen::{Drawing, Piece, Point};
 use std::ffi::{CString, c_char, c_int, c_void};
@@ -65,6 +66,17 @@ pub struct PointResult {
     pub height: f64,
 }
 
+/// What is said of a flight: refusal 0, whether it obeys, whether it is inside the puck (1 or 0), and
+/// the second; or the refusal and zeros. The second is 0 where it is never inside.
+#[repr(C)]
+#[derive(Clone, Copy, Debug, PartialEq, Eq)]
+pub struct FlightResult {
+    pub refusal: u64,
+    pub obeys: u64,
+    pub inside: u64,
+    pub second: u64,
+}
+
 /// A function of the sixteen plain numbers.
 type OfNumbers<R> = unsafe extern "C" fn(
     i64,
@@ -105,6 +117,26 @@ type OfSecond = unsafe extern "C" fn(
     i64,
     u64,
 ) -> PointResult;
+
+/// `judge_flight`: encounter, puck and e, a one-sided advice, and a flight's numbers, a pointer and
+/// their count.
+type OfFlight = unsafe extern "C" fn(
+    i64,
+    i64,
+    i64,
+    i64,
+    i64,
+    i64,
+    i64,
+    i64,
+    i64,
+    i64,
+    i64,
+    i64,
+    i64,
+    *const i64,
+    usize,
+) -> FlightResult;
 
 /// `answer_sheet_bytes`: a sheet and an area, each a pointer and a length.
 type SheetBytes = unsafe extern "C" fn(*const u8, usize, *mut u8, usize) -> SheetResult;
@@ -155,6 +187,34 @@ fn asked_at(of_second: OfSecond, q: &Question, second: u64) -> PointResult {
             q.delay,
             q.limit,
             second,
+        )
+    }
+}
+
+fn flown(of_flight: OfFlight, case: &FlightCase) -> FlightResult {
+    let FlightCase {
+        question: q,
+        flight,
+    } = case;
+    // SAFETY: thirteen numbers by value and a slice that is valid for its length; every such function
+    // takes any and writes no memory.
+    unsafe {
+        of_flight(
+            q.r,
+            q.h,
+            q.c,
+            q.v,
+            q.vi,
+            q.p,
+            q.k,
+            q.e,
+            q.sense,
+            q.target,
+            q.strength,
+            q.delay,
+            q.limit,
+            flight.as_ptr(),
+            flight.len(),
         )
     }
 }
@@ -227,6 +287,25 @@ unsafe extern "C" {
         second: u64,
     ) -> PointResult;
 
+    #[cfg(feature = "flights")]
+    fn judge_flight(
+        r: i64,
+        h: i64,
+        c: i64,
+        v: i64,
+        vi: i64,
+        p: i64,
+        k: i64,
+        e: i64,
+        sense: i64,
+        target: i64,
+        strength: i64,
+        delay: i64,
+        limit: i64,
+        flight: *const i64,
+        count: usize,
+    ) -> FlightResult;
+
     #[cfg(feature = "sheets")]
     fn answer_sheet_bytes(
         sheet: *const u8,
@@ -255,6 +334,12 @@ pub fn point(q: &Question, second: u64) -> PointResult {
     asked_at(screen_point, q, second)
 }
 
+/// What the proved judge says of a flight.
+#[cfg(feature = "flights")]
+pub fn flight(case: &FlightCase) -> FlightResult {
+    flown(judge_flight, case)
+}
+
 /// The proved judge's answer to a sheet, written to the front of the area.
 #[cfg(feature = "sheets")]
 #[inline]
@@ -272,6 +357,7 @@ pub struct Loaded {
     plain: OfNumbers<JudgeResult>,
     drawing: OfNumbers<DrawingResult>,
     point: OfSecond,
+    flight: OfFlight,
     sheet_bytes: SheetBytes,
 }
 
@@ -290,14 +376,16 @@ impl Loaded {
             let plain = dlsym(library, c"judge_plain".as_ptr());
             let drawing = dlsym(library, c"screen_drawing".as_ptr());
             let point = dlsym(library, c"screen_point".as_ptr());
+            let flight = dlsym(library, c"judge_flight".as_ptr());
             let sheet_bytes = dlsym(library, c"answer_sheet_bytes".as_ptr());
-            if [plain, drawing, point, sheet_bytes].contains(&std::ptr::null_mut()) {
+            if [plain, drawing, point, flight, sheet_bytes].contains(&std::ptr::null_mut()) {
                 return None;
             }
             Some(Loaded {
                 plain: std::mem::transmute::<*mut c_void, OfNumbers<JudgeResult>>(plain),
                 drawing: std::mem::transmute::<*mut c_void, OfNumbers<DrawingResult>>(drawing),
                 point: std::mem::transmute::<*mut c_void, OfSecond>(point),
+                flight: std::mem::transmute::<*mut c_void, OfFlight>(flight),
                 sheet_bytes: std::mem::transmute::<*mut c_void, SheetBytes>(sheet_bytes),
             })
         }
@@ -313,6 +401,10 @@ impl Loaded {
 
     pub fn point(&self, q: &Question, second: u64) -> PointResult {
         asked_at(self.point, q, second)
+    }
+
+    pub fn flight(&self, case: &FlightCase) -> FlightResult {
+        flown(self.flight, case)
     }
 
     pub fn answer_sheet(&self, sheet: &[u8], area: &mut [u8]) -> SheetResult {
@@ -422,6 +514,12 @@ impl JudgeResult {
     }
 }
 
+impl JudgeResult {
+    pub fn is_clear(&self) -> bool {
+        self.kind == 65
+    }
+}
+
 impl SheetResult {
     /// The result that stands for an outcome.
     pub fn of(outcome: Result<usize, u8>) -> SheetResult {
@@ -513,6 +611,42 @@ impl PointResult {
     /// Its numbers in order, a float as its bit pattern.
     pub fn numbers(&self) -> [u64; 3] {
         [self.refusal, self.time.to_bits(), self.height.to_bits()]
+    }
+}
+
+impl FlightResult {
+    /// The result that stands for an answer.
+    pub fn of(answer: &FlightAnswer) -> FlightResult {
+        match *answer {
+            Ok(Flown { obeys, inside }) => FlightResult {
+                refusal: 0,
+                obeys: u64::from(obeys),
+                inside: u64::from(inside.is_some()),
+                second: inside.unwrap_or(0),
+            },
+            Err(number) => FlightResult {
+                refusal: u64::from(number),
+                obeys: 0,
+                inside: 0,
+                second: 0,
+            },
+        }
+    }
+
+    /// The answer that it stands for.
+    pub fn answer(&self) -> FlightAnswer {
+        match self.refusal {
+            0 => Ok(Flown {
+                obeys: self.obeys == 1,
+                inside: (self.inside == 1).then_some(self.second),
+            }),
+            number => Err(number as u8),
+        }
+    }
+
+    /// Its numbers in order.
+    pub fn numbers(&self) -> [u64; 4] {
+        [self.refusal, self.obeys, self.inside, self.second]
     }
 }
 

@@ -47,7 +47,7 @@ impl Random {
     }
 
     /// A number within limits: often at or next to an end, or small, else anywhere.
-    fn edgy(&mut self, (from, to): (i64, i64)) -> i64 {
+    pub fn edgy(&mut self, (from, to): (i64, i64)) -> i64 {
         let n = match self.below(16) {
             0 => from,
             1 => to,
@@ -526,10 +526,14 @@ fn behind(random: &mut Random, q: Question) -> Question {
 
 /// A number outside the limits of its field.
 fn outside(random: &mut Random, field: usize, n: i64) -> i64 {
-    let (from, to) = RANGES[field];
     if field == LIMIT && random.chance(1, 3) {
         return random.pick(&[NO_LIMIT - 1, NO_LIMIT + 1, 601, 65_536 + 5, -65_535]);
     }
+    beyond(random, RANGES[field], n)
+}
+
+/// A number outside limits: next to them, a 64-bit extreme, or one that is within them when cut short.
+pub fn beyond(random: &mut Random, (from, to): (i64, i64), n: i64) -> i64 {
     match random.below(12) {
         0..=2 => from - 1,
         3..=5 => to + 1,

@@ -1,19 +1,26 @@
 //! compare [COUNT] [SEED]: holds the proved judge against the independent implementation on COUNT
-//! plain questions (10 million), their drawings with twelve seconds each, and a hundredth as many
-//! sheets, and on the worked questions and sheets; then the program that JUDGE_PROGRAM names, on its
-//! standard input and output. The status is 0 only if no answer differs and every required class was
-//! met. Drawings want the feature `screen`, sheets the feature `sheets`.
+//! plain questions (10 million), their drawings with twelve seconds each, a tenth as many flights and a
+//! hundredth as many sheets, and on the worked questions, flights and sheets; then the program that
+//! JUDGE_PROGRAM names, on its standard input and output. The status is 0 only if no answer differs and
+//! every required class was met. Drawings want the feature `screen`, flights the feature `flights`,
+//! sheets the feature `sheets`.
 
 use compare::check::{self, Tally, argument};
 #[cfg(feature = "sheets")]
 use compare::examples;
 use compare::ffi::{self, JudgeResult};
+#[cfg(feature = "flights")]
+use compare::flight::{self, FlightCase};
 use compare::generate::{self, Random};
 use compare::independent::{Accepted, NAMES, Question};
+#[cfg(feature = "flights")]
+use compare::pilots;
 use compare::program;
 #[cfg(feature = "screen")]
 use compare::screen;
 use compare::worked;
+#[cfg(feature = "flights")]
+use compare::worked_flights;
 use std::path::Path;
 use std::process::ExitCode;
 use std::time::Instant;
@@ -85,6 +92,54 @@ fn drawings(_: &mut Tally, _: u64, _: u64, _: Instant) {
     println!("no drawing was compared");
 }
 
+/// What is said of a flight; and that the judge's own answers keep what is proved of them.
+#[cfg(feature = "flights")]
+fn flight(tally: &mut Tally, name: impl Fn() -> String, case: &FlightCase, random: &mut Random) {
+    let answer = tally.flight(case, random);
+    let wanted = ffi::FlightResult::of(&answer);
+    let found = ffi::flight(case);
+    let FlightCase { question, flight } = case;
+    if found != wanted {
+        tally.differ(|| {
+            let name = name();
+            format!(
+                "{name}: {question}\n  flight {flight:?}\n  wanted {wanted:?}\n  found  {found:?}\n"
+            )
+        });
+    }
+    let verdict = ffi::judge(question);
+    if flight::breaks_theorem(question, verdict.is_clear(), found.answer()) {
+        tally.differ(|| {
+            let name = name();
+            format!("{name}: {question}\n  flight {flight:?}\n  {verdict:?}, but {found:?}\n")
+        });
+    }
+}
+
+#[cfg(feature = "flights")]
+fn flights(tally: &mut Tally, count: u64, seed: u64, began: Instant) {
+    let mut random = Random::new(!seed);
+    for group in worked_flights::groups() {
+        for (case, wanted) in &group.cases {
+            if case.answer() != *wanted {
+                tally.differ(|| format!("{}: {case:?}\n  by hand {wanted:?}\n", group.name));
+            }
+            flight(tally, || group.name.to_string(), case, &mut random);
+        }
+    }
+    for i in 0..count {
+        let case = pilots::flight(seed, i);
+        let name = || format!("flight {i} of seed {seed}");
+        flight(tally, name, &case, &mut random);
+        progress("flights", i + 1, count, tally, began);
+    }
+}
+
+#[cfg(not(feature = "flights"))]
+fn flights(_: &mut Tally, _: u64, _: u64, _: Instant) {
+    println!("no flight was compared");
+}
+
 #[cfg(feature = "sheets")]
 fn sheet(tally: &mut Tally, name: impl Fn() -> String, case: &generate::SheetCase) {
     let expected = tally.sheet(case);
@@ -154,6 +209,7 @@ fn main() -> ExitCode {
         progress("questions", i + 1, count, &tally, began);
     }
     drawings(&mut tally, count, seed, began);
+    flights(&mut tally, count.div_ceil(10), seed, began);
     sheets(&mut tally, count.div_ceil(100), seed, began);
     match std::env::var_os("JUDGE_PROGRAM") {
         Some(path) => program::compare(&mut tally, Path::new(&path), seed),

@@ -1,18 +1,20 @@
 //! turned [COUNT] [SEED]: how fast the comparison finds a broken judge. Each comparison in the judge's
 //! sources is turned in a copy of its own (< and <=, > and >=, == and !=), the copy is built by rustc
 //! as a dynamic library, and held against the independent implementation on COUNT plain questions (1
-//! million) and, where these find nothing, the drawings of a tenth of them, and a hundredth as many
-//! sheets, up to the first difference. The status is 0 only if the copy with nothing turned agrees and
+//! million) and, where these find nothing, the drawings of a tenth of them, a tenth as many flights and
+//! a hundredth as many sheets, up to the first difference. The status is 0 only if the copy with nothing turned agrees and
 //! just those that EQUIVALENT names are not found.
 //!
 //! turned --against LIBRARY COUNT SEED: one library; writes what is found, in a line.
 
 use compare::check::{Tally, argument};
-use compare::ffi::{DrawingResult, JudgeResult, Loaded, PointResult, SheetResult};
+use compare::ffi::{DrawingResult, FlightResult, JudgeResult, Loaded, PointResult, SheetResult};
 use compare::generate::{self, Random};
 use compare::independent::{self, Question};
+use compare::pilots;
 use compare::rattle::{self, Comparison, Module};
 use compare::screen;
+use compare::worked_flights;
 use std::ffi::{c_int, c_uint};
 use std::path::{Path, PathBuf};
 use std::process::{Command, ExitCode};
@@ -120,7 +122,7 @@ const EQUIVALENT: &[Equivalent] = &[
     },
 ];
 
-const PLACES: [&str; 3] = ["question", "drawing", "sheet"];
+const PLACES: [&str; 4] = ["question", "drawing", "flight", "sheet"];
 
 // What the handlers tell: the place, and the number of the case.
 static PLACE: AtomicUsize = AtomicUsize::new(0);
@@ -190,6 +192,27 @@ fn drawn(judge: &Loaded, q: &Question, any: u64) {
     }
 }
 
+/// Holds what is said of flights, generated and worked ones, against the independent answers.
+fn flown(judge: &Loaded, count: u64, seed: u64) {
+    let worked = worked_flights::groups().into_iter();
+    let worked = worked.flat_map(|group| group.cases).map(|(case, _)| case);
+    let generated = (0..count).map(|i| pilots::flight(seed, i));
+    for (i, case) in generated.chain(worked).enumerate() {
+        begin(i as u64);
+        let wanted = FlightResult::of(&case.answer());
+        let found = judge.flight(&case);
+        if found.refusal != wanted.refusal {
+            report("another refusal");
+        }
+        if found.obeys != wanted.obeys {
+            report("obeying or not");
+        }
+        if found != wanted {
+            report("inside or not, or another second");
+        }
+    }
+}
+
 /// Holds one library against the independent implementation.
 fn against(library: &str, count: u64, seed: u64) -> ExitCode {
     let Some(judge) = Loaded::open(library) else {
@@ -218,6 +241,8 @@ fn against(library: &str, count: u64, seed: u64) -> ExitCode {
         drawn(&judge, &generate::question(seed, i), random.draw());
     }
     begin_place(2);
+    flown(&judge, count.div_ceil(10), seed);
+    begin_place(3);
     let mut tally = Tally::default();
     for i in 0..count.div_ceil(100) {
         begin(i);
@@ -289,7 +314,7 @@ fn tried(
 #[derive(Default)]
 struct Summary {
     turned: u64,
-    /// Found by questions, by drawings and by sheets, and the latest case of each.
+    /// Found by questions, drawings, flights and sheets, and the latest case of each.
     found: [u64; PLACES.len()],
     latest: [u64; PLACES.len()],
     longest: f64,
@@ -389,10 +414,10 @@ fn main() -> ExitCode {
             return ExitCode::FAILURE;
         }
     };
+    let tenth = count.div_ceil(10);
     println!(
-        "\n{} turned; at most {count} questions, {} drawings and {} sheets of seed {seed} each",
+        "\n{} turned; at most {count} questions, {tenth} drawings, {tenth} flights and {} sheets of seed {seed} each",
         summary.turned,
-        count.div_ceil(10),
         count.div_ceil(100)
     );
     for (place, (found, latest)) in PLACES.iter().zip(summary.found.iter().zip(summary.latest)) {

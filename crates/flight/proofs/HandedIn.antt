@@ -1,19 +1,17 @@
 -- A flight read from numbers: how many stretches, each stretch from its two numbers, also in the sense; and the sizes, stretch by stretch. Assumes nothing.
 use mathlib.Core.Path.{_≡_, refl, ap, _∙_, subst}
-use mathlib.Core.Bool.{Bool, true, false, _&&_}
+use mathlib.Core.Bool.{true, false}
 use mathlib.Core.List.{List, [], _∷_}
 use Prim.Native.Nat.{ℕ, zero, suc, _*_, _<_}
 use native.Mathlib.Omega.{arith}
 use lib.Dec.{T}
 use lib.IntN.{ℤ, pos}
-use lib.ListN.{length, getD, take}
+use lib.ListN.{length, getD}
 use Rattle.integers.specs.Extremes.{max0}
 use Rattle.advisory.specs.declared.Sense.{Sense}
 use Rattle.flight.specs.declared.Stretch.{Stretch}
-use Rattle.flight.specs.FlightLimits.{stretchWithin, stretchesWithin}
 use Rattle.flight.specs.HandedIn.{flightOf, paired}
-use Rattle.flight.specs.SensedFlight.{sensedStretch, sensedFlight}
-use Rattle.flight.proofs.Decides.{both-hold, second-fails, first-holds, second-holds}
+use Rattle.flight.specs.SensedFlight.{sensedFlight}
 
 -- two numbers to a stretch, and one more where they are not pairs
 pub count-handed : (l : List ℤ) → T (paired l) → length l ≡ 2 * length (flightOf l)
@@ -46,24 +44,3 @@ module _ (w : Sense) where
   pub sensed-count : (l : List Stretch) → length (sensedFlight w l) ≡ length l
   sensed-count [] = refl
   sensed-count (x ∷ l) = omega (arith, sensed-count l)
-
-  pub stretch-sensed : (l : List Stretch) (i : ℕ) (z z′ : Stretch) → i < length l → getD (sensedFlight w l) i z ≡ sensedStretch w (getD l i z′)
-  stretch-sensed [] i z z′ h = absurd (omega arith)
-  stretch-sensed (x ∷ l) zero z z′ h = refl
-  stretch-sensed (x ∷ l) (suc i) z z′ h = stretch-sensed l i z z′ (omega arith)
-
--- ---- the sizes of the first i stretches, and of one more
-pub within-on : (l : List Stretch) (i : ℕ) (z : Stretch) → i < length l → stretchesWithin (take i l) ≡ true → stretchWithin (getD l i z) ≡ true → stretchesWithin (take (suc i) l) ≡ true
-within-on [] i z h e f = absurd (omega arith)
-within-on (x ∷ l) zero z h e f = both-hold f refl
-within-on (x ∷ l) (suc i) z h e f = both-hold (first-holds (stretchWithin x) (stretchesWithin (take i l)) e)
-    (within-on l i z (omega arith) (second-holds (stretchWithin x) (stretchesWithin (take i l)) e) f)
-
-pub within-all : (l : List Stretch) → stretchesWithin (take (length l) l) ≡ stretchesWithin l
-within-all [] = refl
-within-all (x ∷ l) = ap (λ (b : Bool). stretchWithin x && b) (within-all l)
-
-pub stretch-outside : (l : List Stretch) (i : ℕ) (z : Stretch) → i < length l → stretchWithin (getD l i z) ≡ false → stretchesWithin l ≡ false
-stretch-outside [] i z h e = absurd (omega arith)
-stretch-outside (x ∷ l) zero z h e = ap (λ (b : Bool). b && stretchesWithin l) e
-stretch-outside (x ∷ l) (suc i) z h e = second-fails (stretchWithin x) (stretch-outside l i z (omega arith) e)

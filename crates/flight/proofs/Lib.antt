@@ -11,9 +11,7 @@ pub mod Decides
 pub mod ObeyingTests
 pub mod InsideTests
 pub mod Clamped
-pub mod ByStretch
 pub mod PlainNumbers
-pub mod WindowSeconds
 pub mod Walk
 pub mod FlightSizes
 pub mod FlightExamples

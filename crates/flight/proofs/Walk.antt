@@ -11,20 +11,18 @@ use Rattle.integers.proofs.Quotation.{quote}
 use Rattle.integers.proofs.Certificates.{ring}
 use Rattle.integers.proofs.Branches.{picks-yes, picks-no}
 use Rattle.path.specs.declared.SensedQuestion.{SensedQuestion}
-use Rattle.path.specs.Letters.{c, p, k, u, q, a, d, e}
+use Rattle.path.specs.Letters.{c, p, u, q, a, d, e}
 use Rattle.path.specs.Window.{distanceAt}
 use Rattle.flight.specs.declared.Stretch.{Stretch}
 use Rattle.flight.specs.declared.Part.{Part}
 use Rattle.flight.specs.declared.PuckEntry.the-variants.{Never, During}
 use Rattle.flight.specs.Flight.{duration, accelerationAt, speedAt, heightAt}
-use Rattle.flight.specs.Inside.{InsideDuring}
 use Rattle.flight.specs.inner.Parts.{nearPart, bandFrom, bandTo}
 use Rattle.flight.specs.inner.Tests.{obeysDelayed, obeysAdvice, secondObeys, firstObey, obeysTest, reaches, crosses, insideAt, insideSecond, insideFrom, firstInside}
 use Rattle.flight.specs.inner.Clamped.{clamped}
 use Rattle.flight.proofs.Steps.{speed-start, height-start, speed-step, height-step}
 use Rattle.flight.proofs.Decides.{nat-decides, decided-yes, decides-not, both-hold, second-fails}
 use Rattle.flight.proofs.PlainNumbers.{negated-size}
-use Rattle.flight.proofs.InsideTests.{second-inside}
 use Rattle.flight.proofs.NearParts.{near-part}
 use Rattle.flight.proofs.Clamped.{reaches-clamped}
 
@@ -100,24 +98,6 @@ module _ (s : SensedQuestion) (l : List Stretch) where
   pub none-left : (n : ℕ) → duration l < n → LeftFrom n → firstInside s l ≡ Never
   unfolding insideFrom
   none-left n h left = left ∙ ap (λ (f : ℕ). insideFrom s l f n) {x = suc (duration l) - n} {y = 0} (omega arith)
-
-  module _ (pk : 1 ≤ k s) where
-    pub second-outside : (n : ℕ) → n ≤ duration l → ¬ InsideDuring s l n → insideSecond s l n ≡ false
-    second-outside n h out = decides-not (second-inside s l pk n h) out
-
-    -- no second from n on has a time inside
-    outside-from : (f n : ℕ) → f + n ≤ suc (duration l) → ((j : ℕ) → n ≤ j → ¬ InsideDuring s l j) → insideFrom s l f n ≡ Never
-    unfolding insideFrom
-    outside-from zero n h out = refl
-    outside-from (suc f) n h out = not-here f n (second-outside n (omega arith) (out n (omega arith))) ∙ outside-from f (suc n) (omega arith) (λ j (i : suc n ≤ j). out j (omega arith))
-
-    pub outside-on : (n : ℕ) → n ≤ suc (duration l) → LeftFrom n → ((j : ℕ) → n ≤ j → ¬ InsideDuring s l j) → firstInside s l ≡ Never
-    outside-on n h left out = left ∙ outside-from (suc (duration l) - n) n (omega arith) out
-
-    -- none of the first n has
-    pub outside-until : (n : ℕ) → n ≤ suc (duration l) → ((j : ℕ) → j < n → ¬ InsideDuring s l j) → LeftFrom n
-    outside-until zero h out = all-left
-    outside-until (suc n) h out = left-on n (omega arith) (outside-until n (omega arith) (λ j (i : j < n). out j (omega arith))) (second-outside n (omega arith) (out n (omega arith)))
 
 -- ---- one second's test in the numbers that a walk has
 module _ (s : SensedQuestion) (l : List Stretch) (n : ℕ) where

@@ -15,8 +15,8 @@ use limits::MAX_FLIGHT_ACCELERATION;
 use limits::MAX_FLIGHT_SECONDS;
 use limits::MAX_STRETCHES;
 use limits::MIN_FLIGHT_ACCELERATION;
-use limits::MIN_STRETCHES;
 use limits::MIN_STRETCH_SECONDS;
+use limits::MIN_STRETCHES;
 use window::positive_part;
 
 // The i-th stretch, from 0; past the last there is none.

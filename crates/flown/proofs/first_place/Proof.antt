@@ -22,11 +22,10 @@ returns c =
     let w = z .args .w in
     let e = z .pre .1 in
     let x = k .sensed-stretch .result in
-    let speed = result (read-stored (bounded (u s) maxSpeedDifference (z .pre .0 .u-lo) (z .pre .0 .u-hi))) tt in
-    (
+    let speed = result (read-stored (bounded (u s) maxSpeedDifference (z .pre .0 .u-lo) (z .pre .0 .u-hi))) tt in (
       refl,
       place-as refl refl (sym (ap (λ (y : Stretch). y .seconds) (k .sensed-stretch .ensures))) (same-motion refl (sym speed) (sym (stored-acceleration l e w 0 x (k .sensed-stretch .ensures))))
-      (first s (sensedFlight w (flightOf l)) (lasting l e w)),
+          (first s (sensedFlight w (flightOf l)) (lasting l e w)),
     )
 
 pub first-place-spec : {M : Type 1} → statement M

@@ -74,8 +74,7 @@ loop-again : tie.Need-loop-again Inv-loop μ-loop
 loop-again c =
     let b = c .before in
     let t = b .before in
-    let e = c .next-place .ensures in
-    (
+    let e = c .next-place .ensures in (
       e .1,
       subst (λ (i : ℕ). firstObey (z t .args .s) (f t) i ≡ true) (sym (e .0)) (obeys-on (z t .args .s) (f t) (n t) (o t .loop .inv .1) (tested t ∙ not-false _ (b .if2 .left))),
     )

@@ -59,11 +59,10 @@ returns c =
     let e = z .pre .1 .0 in
     let i = suc (place .stretch) in
     let x = k .sensed-stretch .result in
-    let is : x ≡ getD f i noStretch = k .sensed-stretch .ensures ∙ ap (λ (n : ℕ). getD f n noStretch) (add-one (place .stretch)) in
-    (
+    let is : x ≡ getD f i noStretch = k .sensed-stretch .ensures ∙ ap (λ (n : ℕ). getD f n noStretch) (add-one (place .stretch)) in (
       add-one (place .second),
       place-as (sym (add-one (place .second))) (sym (add-one (place .stretch))) (sym (ap (λ (y : Stretch). y .seconds) is)) (sym (c .motion-after .ensures ∙ ap (motionAfter (place .motion)) (stored-acceleration l e w i x is)))
-      (next-stretch (z .args .s) f (lasting l e w) place (z .pre .1 .1 .0) (z .pre .1 .1 .1) (b .if1 .taken)),
+          (next-stretch (z .args .s) f (lasting l e w) place (z .pre .1 .1 .0) (z .pre .1 .1 .1) (b .if1 .taken)),
     )
 
 motion-after-requires-2 : tie.Need-motion-after-requires-2
@@ -78,11 +77,10 @@ returns-2 c =
     let w = z .args .w in
     let f = sensedFlight w (flightOf l) in
     let g = result (read-stored (read-acceleration (place .motion) (sizes z))) tt in
-    let more : 0 < place .left - 1 = omega (arith, b .if1 .left) in
-    (
+    let more : 0 < place .left - 1 = omega (arith, b .if1 .left) in (
       add-one (place .second),
       place-as (sym (add-one (place .second))) refl refl (sym (c .motion-after2 .ensures ∙ ap (motionAfter (place .motion)) g))
-      (next-within (z .args .s) f (lasting l (z .pre .1 .0) w) place (z .pre .1 .1 .0) (z .pre .1 .1 .1) more),
+          (next-within (z .args .s) f (lasting l (z .pre .1 .0) w) place (z .pre .1 .1 .0) (z .pre .1 .1 .1) more),
     )
 
 pub next-place-spec : {M : Type 1} → statement M

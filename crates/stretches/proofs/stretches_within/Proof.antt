@@ -69,9 +69,9 @@ loop-again c =
       omega (arith, there s),
       omega (arith, short c),
       o .loop .inv .2
-      ∙ passed (o .loop .total) l i (there s) (sym (tested w) ∙ not-false _ (e .if1 .left))
-      ∙ ap (λ (x : Stretch). restWithin (o .loop .total + x .seconds) (drop (suc i) l)) (sym (s .stretch-at .ensures))
-      ∙ ap (λ (n : ℕ). restWithin (o .loop .total + s .stretch-at .result .seconds) (drop n l)) {x = suc i} {y = i + 1} (omega arith),
+          ∙ passed (o .loop .total) l i (there s) (sym (tested w) ∙ not-false _ (e .if1 .left))
+          ∙ ap (λ (x : Stretch). restWithin (o .loop .total + x .seconds) (drop (suc i) l)) (sym (s .stretch-at .ensures))
+          ∙ ap (λ (n : ℕ). restWithin (o .loop .total + s .stretch-at .result .seconds) (drop n l)) {x = suc i} {y = i + 1} (omega arith),
     )
 
 returns-2 : tie.Need-returns-2 Inv-loop μ-loop
