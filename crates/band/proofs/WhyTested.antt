@@ -84,23 +84,27 @@ pub needs-14 : (refusal above-7 puck-1 weak ≡ Checked.Refused 14) × Fails abo
 unfolding refusal sensedQuestion adviceGain delayHeight continued
 needs-14 =
     let s = sensedQuestion above-7 puck-1 weak in
-    let level = delayHeight (pos 0) (pos 0) in
-    (refl, record {
-      lower = (0 ÷ 1, record { divisor = omega arith; conflict = record { window = record { near = omega arith; intime = omega arith }; vertical = leZ-yes tt } });
-      upper = (4 ÷ 1, record { divisor = omega arith; conflict = record { window = record { near = omega arith; intime = omega arith }; vertical = leZ-yes tt } });
-      outside = λ n m w. apart 1 9 n m (lowerPath s n m) (upperPath s n m) (w .divisor) (omega arith) (λ l. lower-from s m (rises 2 2 10 level (3 * m) n m l)) (λ l. upper-to s m (rises 1 1 10 level n (3 * m) m l));
-    })
+    let level = delayHeight (pos 0) (pos 0) in (
+      refl,
+      record {
+        lower = (0 ÷ 1, record { divisor = omega arith; conflict = record { window = record { near = omega arith; intime = omega arith }; vertical = leZ-yes tt } });
+        upper = (4 ÷ 1, record { divisor = omega arith; conflict = record { window = record { near = omega arith; intime = omega arith }; vertical = leZ-yes tt } });
+        outside = λ n m w. apart 1 9 n m (lowerPath s n m) (upperPath s n m) (w .divisor) (omega arith) (λ l. lower-from s m (rises 2 2 10 level (3 * m) n m l)) (λ l. upper-to s m (rises 1 1 10 level n (3 * m) m l));
+      },
+    )
 
 pub needs-15 : (refusal above-7 puck-1 slow ≡ Checked.Refused 15) × Fails above-7 puck-1 slow
 unfolding refusal sensedQuestion adviceGain delayHeight continued
 needs-15 =
     let s = sensedQuestion above-7 puck-1 slow in
-    let level = delayHeight (pos 0) (pos 0) in
-    (refl, record {
-      lower = (0 ÷ 1, record { divisor = omega arith; conflict = record { window = record { near = omega arith; intime = omega arith }; vertical = leZ-yes tt } });
-      upper = (4 ÷ 1, record { divisor = omega arith; conflict = record { window = record { near = omega arith; intime = omega arith }; vertical = leZ-yes tt } });
-      outside = λ n m w. apart 2 20 n m (lowerPath s n m) (upperPath s n m) (w .divisor) (omega arith) (λ l. lower-from s m (rises 2 2 10 level (3 * m) n m l)) (λ l. upper-to s m (rises 2 2 2 level n (3 * m) m l));
-    })
+    let level = delayHeight (pos 0) (pos 0) in (
+      refl,
+      record {
+        lower = (0 ÷ 1, record { divisor = omega arith; conflict = record { window = record { near = omega arith; intime = omega arith }; vertical = leZ-yes tt } });
+        upper = (4 ÷ 1, record { divisor = omega arith; conflict = record { window = record { near = omega arith; intime = omega arith }; vertical = leZ-yes tt } });
+        outside = λ n m w. apart 2 20 n m (lowerPath s n m) (upperPath s n m) (w .divisor) (omega arith) (λ l. lower-from s m (rises 2 2 10 level (3 * m) n m l)) (λ l. upper-to s m (rises 2 2 2 level n (3 * m) m l));
+      },
+    )
 
 -- with upper strength and target no less than strength and target, the question is accepted
 pub accepted-with-order : refusal above-7 puck-1 (climb-to-10 (pos 10) (pos 2)) ≡ Checked.Accepted

@@ -76,12 +76,14 @@ one-path = climb-to-10 (pos 10) (pos 2)
 pub needs-2 : (refusal above-2 puck-0 one-path ≡ Checked.Refused 2) × Fails above-2 puck-0 one-path
 unfolding refusal sensedQuestion adviceGain delayHeight continued
 needs-2 =
-    let s = sensedQuestion above-2 puck-0 one-path in
-    (refl, record {
-      lower = (0 ÷ 1, record { divisor = omega arith; conflict = record { window = record { near = omega arith; intime = omega arith }; vertical = leZ-yes tt } });
-      upper = (4 ÷ 1, record { divisor = omega arith; conflict = record { window = record { near = omega arith; intime = omega arith }; vertical = leZ-yes tt } });
-      outside = λ n m w.
-          let i : n ≤ 4 * m = w .intime in
-          let same : lowerPath s n m ≡ pos 4 *ℤ pos n *ℤ pos n = square n m (omega arith) in
-          subst (λ (f : ℤ). Outside (pos 2) (record { from = lowered 0 (record { number = f; divisor = 2 * 2 * m * m }); to = raised 0 (record { number = f; divisor = 2 * 2 * m * m }) })) (sym same) (beside n m (w .divisor));
-    })
+    let s = sensedQuestion above-2 puck-0 one-path in (
+      refl,
+      record {
+        lower = (0 ÷ 1, record { divisor = omega arith; conflict = record { window = record { near = omega arith; intime = omega arith }; vertical = leZ-yes tt } });
+        upper = (4 ÷ 1, record { divisor = omega arith; conflict = record { window = record { near = omega arith; intime = omega arith }; vertical = leZ-yes tt } });
+        outside = λ n m w.
+            let i : n ≤ 4 * m = w .intime in
+            let same : lowerPath s n m ≡ pos 4 *ℤ pos n *ℤ pos n = square n m (omega arith) in
+            subst (λ (f : ℤ). Outside (pos 2) (record { from = lowered 0 (record { number = f; divisor = 2 * 2 * m * m }); to = raised 0 (record { number = f; divisor = 2 * 2 * m * m }) })) (sym same) (beside n m (w .divisor));
+      },
+    )
