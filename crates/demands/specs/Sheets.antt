@@ -49,7 +49,7 @@ module _ (answers : List ℕ) (earlier : List Record) (given : Record) (later : 
   abbrev pub AnsweredBy : Answer → Type 0
   AnsweredBy r = answers ≡ answersFrom startingState earlier ++ (recordBytes (answerRecord r) ++ answersFrom (stateAfter stateThere given) later)
 
-  -- a free question: "Free: 7, 4, 5, 6"; asked of an encounter, the plain answer
+  -- a free question: 7, 4, 5, 14, 15, 16, 6 (`freeChecks`); asked of an encounter, the plain answer
   pub record FreeAnswered (z : Question) (r : Answer) : Type 0 where
     pub placed : AnsweredBy r
     pub order : refusalIn r ≡ firstRefusal (freeChecks (stateThere .encounter) z)
