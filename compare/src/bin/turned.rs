@@ -111,6 +111,26 @@ const EQUIVALENT: &[Equivalent] = &[
         reason: "in a window without an end a path to target 0 is settled at its turning instant, and not searched",
     },
     Equivalent {
+        function: "clamp",
+        turned: "if MOST_GAINED <= edge {",
+        reason: "the bound is brought to itself",
+    },
+    Equivalent {
+        function: "clamp",
+        turned: "if edge <= MOST_LOST {",
+        reason: "the bound is brought to itself",
+    },
+    Equivalent {
+        function: "tops",
+        turned: "(g < 0) & ((0 < v * y + g * x) & (0 <= v * v + g * edge))",
+        reason: "a top at the part's first instant is tried as that",
+    },
+    Equivalent {
+        function: "reaches_from_to",
+        turned: "first | (last | (top & (v * y + g * z < 0)))",
+        reason: "a top at the part's last instant is tried as that",
+    },
+    Equivalent {
         function: "answer_fits",
         turned: "if LONGEST_ANSWER < room {",
         reason: "an area of just that length has room for every answer, as the length pass finds too",
@@ -208,7 +228,7 @@ fn flown(judge: &Loaded, count: u64, seed: u64) {
             report("obeying or not");
         }
         if found != wanted {
-            report("inside or not, or another second");
+            report("another second inside");
         }
     }
 }
