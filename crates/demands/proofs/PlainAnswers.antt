@@ -1,5 +1,5 @@
--- The demands of an answer to plain numbers, from the judge's theorems: demand 3 with its conflict times spelled out, demand 2 for one-sided questions.
--- Assumes nothing.
+-- The demands of an answer to plain numbers, from the judge's theorems: demand 3 with its conflict times spelled out, demand 2 for one-sided questions, the band for
+-- two-sided ones. Assumes nothing.
 use mathlib.Core.Path.{_≡_, refl, sym, ap, subst, _∙_}
 use mathlib.Core.Bool.{Bool, true, false}
 use mathlib.Core.Logic.{_↔_, Iff·trans}
@@ -29,6 +29,7 @@ use Rattle.judge.proofs.Demand3.{judged, demand-3, one-sided-exactly, two-sided
 use Rattle.judge.proofs.AnswerRecords.{record-determines}
 use Rattle.judge.proofs.WithoutDelay.{answer-without-delay}
 use Rattle.region.proofs.VerdictRegion.{clear-is-delayed-region, clear-is-immediate-region}
+use Rattle.band.proofs.AcceptedBand.{clear-outside-band}
 use Rattle.demands.specs.Demand2.{Demand2}
 use Rattle.demands.specs.Demand3.{WithinLimit, NotStrictlyBeyond, ConflictAt, SomeConflict, ConflictOnEachSide, SaysConflict, Shown, Said, Demand3}
 use Rattle.demands.specs.PlainAnswer.{JudgedAs, RightlyAnswered}
@@ -119,6 +120,7 @@ answer-right x y z = record {
   refused = λ number e. ap (λ (k : Checked). checkedAnswer k (verdict z (sensedQuestion x y z))) e;
   judged = judged-as x y z;
   one-sided = region x y z;
+  two-sided = clear-outside-band x y z;
   without-delay = answer-without-delay x y z;
 }
 

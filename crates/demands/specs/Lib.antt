@@ -1,5 +1,6 @@
 pub mod Demand3
 pub mod Demand2
+pub mod Band
 pub mod PlainAnswer
 pub mod Maintain
 pub mod Sheets

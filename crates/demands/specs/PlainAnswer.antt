@@ -1,7 +1,7 @@
 -- What the demands ask of the answer to a question of plain numbers: an encounter x, settings y, a question z. Demand 1: each refusal has its number, condition
 -- and effect; the entry for plain numbers writes no memory.
 use mathlib.Core.Path.{_≡_}
-use mathlib.Core.Bool.{cond, false}
+use mathlib.Core.Bool.{cond, true, false}
 use mathlib.Core.List.{List, [], _∷_, _++_}
 use Prim.Native.Nat.{ℕ}
 use lib.Dec.{eqb}
@@ -19,6 +19,7 @@ use Rattle.judge.proofs.WithoutDelay.{earlierAnswer}
 use Rattle.binding.specs.declared.JudgeResult.{JudgeResult}
 use Rattle.demands.specs.Demand2.{Demand2}
 use Rattle.demands.specs.Demand3.{Demand3}
+use Rattle.demands.specs.Band.{ClearOutsideBand}
 
 -- accepted: judged as demand 3 asks
 abbrev pub JudgedAs : Encounter → Settings → Question → Answer → Type 0
@@ -29,6 +30,8 @@ pub record RightlyAnswered (x : Encounter) (y : Settings) (z : Question) (answer
   pub refused : (number : ℕ) → refusal x y z ≡ Refused number → answer ≡ Answer.Refused number
   pub judged : refusal x y z ≡ Accepted → JudgedAs x y z answer
   pub one-sided : refusal x y z ≡ Accepted → twoSided z ≡ false → Demand2 x y z answer
+  -- "The band between the paths" (document 02)
+  pub two-sided : refusal x y z ≡ Accepted → twoSided z ≡ true → ClearOutsideBand x y z answer
   -- "With delay 0 all answers equal the earlier ones" (document 02, "Two-sided with a slow pilot")
   pub without-delay : z .delay ≡ pos 0 → answer ≡ earlierAnswer x y z
 
