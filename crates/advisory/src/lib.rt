@@ -1,18 +1,20 @@
 // The article's advisories by code: the catalogue gives sense and target, the reaction table strength and delay.
+#![tactic(auto)]
+
 ghost use Rattle.std.specs.Prelude.{◌≡◌};
 ghost use Rattle.advisory.specs.Catalogue.{sense_of_code, target_of, catalogue_of};
 ghost use Rattle.advisory.specs.ReactionTable.{reaction_table, row_at, row_of};
 ghost use Rattle.advisory.specs.Advised.{advised_of};
 
 // The way an advisory sends the ownship.
-#[derive(Drop)]
+#[derive(Clone, Copy)]
 pub enum Sense {
     Climb,
     Descend,
 }
 
 // The vertical speed to reach. Upward speeds are positive in both senses; a grain per second is a foot per minute.
-#[derive(Drop)]
+#[derive(Clone, Copy)]
 pub enum Target {
     Rate(i64),
     // The ownship's own speed: MDES and MCL.
@@ -20,14 +22,14 @@ pub enum Target {
 }
 
 // What the catalogue gives an article code.
-#[derive(Drop)]
+#[derive(Clone, Copy)]
 pub struct Advice {
     pub sense: Sense,
     pub target: Target,
 }
 
 // What the catalogue says of a code.
-#[derive(Drop)]
+#[derive(Clone, Copy)]
 pub enum Listing {
     Article(Advice),
     // Named, and never judged: COC and MTLO.
@@ -36,7 +38,7 @@ pub enum Listing {
 }
 
 // A row of the reaction table: strength in grains/s², delay in seconds.
-#[derive(Drop)]
+#[derive(Clone, Copy)]
 pub struct Reaction {
     pub code: u8,
     pub strength: u64,
@@ -44,14 +46,14 @@ pub struct Reaction {
 }
 
 // What a look-up in the reaction table finds.
-#[derive(Drop)]
+#[derive(Clone, Copy)]
 pub enum Reacted {
     Row(Reaction),
     Missing,
 }
 
 // All that a judged code tells the pilot.
-#[derive(Drop)]
+#[derive(Clone, Copy)]
 pub struct Instruction {
     pub sense: Sense,
     pub target: Target,
@@ -60,7 +62,7 @@ pub struct Instruction {
 }
 
 // What a code byte advises.
-#[derive(Drop)]
+#[derive(Clone, Copy)]
 pub enum Advised {
     Judged(Instruction),
     NotJudged,

@@ -1,4 +1,6 @@
 // The state that a sheet keeps, and the reply to each record. `specs/` says what both are.
+#![tactic(auto)]
+
 ghost use Rattle.std.specs.Prelude.{◌≡◌};
 ghost use Rattle.judge.specs.Answers.{answerRecord};
 ghost use Rattle.reply.specs.AnswerBytes.{reply_record};
@@ -14,7 +16,7 @@ use record::Record;
 use reply::Reply;
 
 // The encounter that was accepted last, if any.
-#[derive(Drop)]
+#[derive(Clone, Copy)]
 pub enum LastEncounter {
     Absent,
     Present(Encounter),
@@ -22,7 +24,7 @@ pub enum LastEncounter {
 
 // What a sheet keeps from record to record. It goes by value, in and out of each step: a refused record's state is then the old one in plain
 // sight, and no step can change it unseen.
-#[derive(Drop)]
+#[derive(Clone, Copy)]
 pub struct State {
     settings: Settings,
     encounter: LastEncounter,

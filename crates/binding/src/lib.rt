@@ -1,4 +1,6 @@
 // The judge for programs in C and Rust, built by `rt staticlib binding`. Numbers pass as themselves, results as structs of numbers.
+#![tactic(auto)]
+
 ghost use Rattle.std.specs.Prelude.{◌≡◌, length};
 ghost use Rattle.instant.specs.Lowest.{no_time};
 ghost use Rattle.judge.specs.Answers.{answer};
@@ -22,7 +24,7 @@ use verdict::Verdict;
 
 // An answer record's kind and numbers; fields that the kind does not use are 0.
 #[repr(C)]
-#[derive(Drop)]
+#[derive(Clone, Copy)]
 pub struct JudgeResult {
     // 65, 66, 67 or 68.
     pub kind: u64,
@@ -166,7 +168,7 @@ pub extern "C" fn judge_plain(
 
 // Of an accepted sheet the answer's length, and refusal 0; of a refused one the number, and length 0.
 #[repr(C)]
-#[derive(Drop)]
+#[derive(Clone, Copy)]
 pub struct SheetResult {
     pub refusal: u64,
     pub length: u64,
@@ -197,7 +199,7 @@ pub extern "C" fn answer_sheet_bytes(sheet: &[u8], area: &mut [u8]) -> SheetResu
 
 // A piece, the time from which it holds, and its coefficients of t², t and 1; a straight's first is 0.
 #[repr(C)]
-#[derive(Drop)]
+#[derive(Clone, Copy)]
 pub struct PieceResult {
     // 1 for a straight, 2 for an arc, 0 where there is no piece.
     pub kind: u64,
@@ -211,7 +213,7 @@ pub struct PieceResult {
 
 // Of a drawn question refusal 0 and its one to three pieces in time's order; of a refused one the number, and no piece. What is not used is 0.
 #[repr(C)]
-#[derive(Drop)]
+#[derive(Clone, Copy)]
 pub struct DrawingResult {
     pub refusal: u64,
     pub pieces: u64,
@@ -335,7 +337,7 @@ pub extern "C" fn screen_drawing(
 
 // A screen point and refusal 0, or the refusal's number and two zeros.
 #[repr(C)]
-#[derive(Drop)]
+#[derive(Clone, Copy)]
 pub struct PointResult {
     pub refusal: u64,
     pub time: f64,
@@ -399,7 +401,7 @@ pub extern "C" fn screen_point(
 
 // Of a flight that is flown refusal 0, 1 if it obeys, 1 if it is inside the puck, and the first such second; of a refused one the number. What is not used is 0.
 #[repr(C)]
-#[derive(Drop)]
+#[derive(Clone, Copy)]
 pub struct FlightResult {
     pub refusal: u64,
     pub obeys: u64,

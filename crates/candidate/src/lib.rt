@@ -1,4 +1,6 @@
 // A candidate's flight, judged. `flight` says what it is to obey and to be inside the puck; `specs/` says what each answer is.
+#![tactic(auto)]
+
 ghost use Rattle.std.specs.Prelude.{◌≡◌};
 ghost use Rattle.candidate.specs.Advice.{asked, flight_refusal};
 ghost use Rattle.candidate.specs.FlightAnswers.{flight_answer, flight_record};
@@ -11,7 +13,7 @@ use sensed::sensed_question;
 use stretches::flight_within;
 
 // A one-sided advice: sense, target, strength a, delay d, limit.
-#[derive(Drop)]
+#[derive(Clone, Copy)]
 pub struct OneSidedAdvice {
     pub sense: i64,
     pub target: i64,
@@ -21,7 +23,7 @@ pub struct OneSidedAdvice {
 }
 
 // The refusal's number; or whether the flight obeys, and when it is inside the puck.
-#[derive(Drop)]
+#[derive(Clone, Copy)]
 pub enum FlightAnswer {
     Refused(u8),
     Flown(bool, PuckEntry),

@@ -1,4 +1,6 @@
 // A question by code as a free one.
+#![tactic(auto)]
+
 ghost use Rattle.std.specs.Prelude.{◌≡◌};
 ghost use Rattle.advisory.specs.Catalogue.{rate_of};
 ghost use Rattle.advisory.specs.inner.Codes.{InLimits};
@@ -8,7 +10,7 @@ use advisory::{Advised, Instruction, Sense, Target, advise};
 use question::Question;
 
 // A question by code as a free one, or the refusal's number.
-#[derive(Drop)]
+#[derive(Clone, Copy)]
 pub enum CodedQuestion {
     Asked(Question),
     Refused(u8),

@@ -2,6 +2,7 @@
 //
 // `path` compares heights times 2·a·m², up to 4.4e19, which 64 bits don't hold. So each comparison here has a factor that its two sides share divided out:
 // an arc stands times 2·m², a straight times 2·a·m. Locals bear document 01's letters (`path`, specs/Letters.antt).
+#![tactic(auto)]
 
 ghost use Rattle.std.specs.Prelude.{◌≡◌, ◌*◌, ◌≤◌, ◌-ℤ◌, nat_abs};
 ghost use Rattle.integers.specs.Extremes.{max0};
@@ -95,7 +96,7 @@ fn delay_not_beyond(side: Side, s: SensedQuestion, n: u64, m: u64) -> bool
 }
 
 // An advice rule from any height and speed on, so that one comparison serves both sides.
-#[derive(Drop)]
+#[derive(Clone, Copy)]
 struct AdviceRule {
     strength: u64,
     target: i64,

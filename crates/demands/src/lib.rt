@@ -1,5 +1,7 @@
 // The customer's demands of every entry. Each function only calls an entry, and its contract is what the demands ask of that entry's result: the checker
 // proves here that the entry's own contract gives it. `specs/` has the demands in the customer's words; demands that no entry answers stand there with their proofs.
+#![tactic(auto)]
+
 ghost use Rattle.std.specs.Prelude.{take, pos, ◌-ℤ◌};
 ghost use Rattle.screen.specs.Drawings.{content};
 ghost use Rattle.binding.specs.PlainNumbers.{plain_encounter, plain_settings, plain_question, plain_advice};
@@ -214,7 +216,7 @@ pub fn flight_demanded(
 }
 
 // The answers to a flight and to the question that its advice asks.
-#[derive(Drop)]
+#[derive(Clone, Copy)]
 pub struct BothAnswers {
     pub judged: Answer,
     pub flown: FlightAnswer,

@@ -2,6 +2,8 @@
 // and then the number of drawings and of seconds, how many of each differ from those in the file, and how many there are of each kind.
 // `cargo run --profile checked --bin drawings ../crates/drawings`, run in `compare/`, writes the files, `args` and `stdout`: the drawings are the independent
 // implementation's. The program is proved safe. That it sees a difference is shown by the file `planted`, whose numbers are wrong.
+#![tactic(auto)]
+
 ghost use Rattle.std.specs.Prelude.{◌+◌, ◌≤◌, length};
 ghost use Rattle.io.specs.Counts.{IsPrefixLen};
 
@@ -19,7 +21,7 @@ const CASE: usize = 440;
 // 256 cases, and a first line of 600 bytes.
 const ROOM: usize = 113240;
 
-#[derive(Drop)]
+#[derive(Clone, Copy)]
 struct Report {
     cases: u64,
     // Drawings that differ, those of one, two and three pieces, and those refused.

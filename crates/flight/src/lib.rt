@@ -1,21 +1,22 @@
 // A candidate's flight: the types that its definitions (`specs/`) and the code that judges it share. This crate has no functions.
+#![tactic(auto)]
 
 // A stretch of a flight: one acceleration, for whole seconds.
-#[derive(Drop)]
+#[derive(Clone, Copy)]
 pub struct Stretch {
     pub acceleration: i64,
     pub seconds: u64,
 }
 
 // When a flight is inside the puck: never, or first in the second that begins at n.
-#[derive(Drop)]
+#[derive(Clone, Copy)]
 pub enum PuckEntry {
     Never,
     During(u64),
 }
 
 // A part of a second, in fractions of it: none of it; from x/y to z/y; or from x/y up to its end, which is the next second's.
-#[derive(Drop)]
+#[derive(Clone, Copy)]
 pub enum Part {
     Nowhere,
     FromTo(u64, u64, u64),

@@ -2,6 +2,8 @@
 // how many answers differ from those in the file, and how many there are of each kind.
 // `cargo run --profile checked --bin flights ../crates/flights`, run in `compare/`, writes the files, `args` and `stdout`: the answers are the independent
 // implementation's. The program is proved safe. That it sees a difference is shown by the file `planted`, whose answers are wrong.
+#![tactic(auto)]
+
 ghost use Rattle.std.specs.Prelude.{◌≡◌, ◌+◌, ◌≤◌, length, take};
 ghost use Rattle.io.specs.Counts.{IsPrefixLen};
 
@@ -24,7 +26,7 @@ const FLIGHT_ROOM: usize = 65536;
 const ROOM: usize = 131072;
 
 // An answer's numbers: the refusal, or 0 and then 1 if the flight obeys, 1 if it is inside, and the second; what is not used is 0.
-#[derive(Drop)]
+#[derive(Clone, Copy)]
 struct Numbers {
     refusal: u64,
     obeys: u64,
@@ -32,7 +34,7 @@ struct Numbers {
     second: u64,
 }
 
-#[derive(Drop)]
+#[derive(Clone, Copy)]
 struct Report {
     flights: u64,
     different: u64,

@@ -1,5 +1,7 @@
 // A flight flown second by second: whether it obeys, and in which second it is first inside the puck. At most 600 seconds and the last instant; `second` tests
 // each.
+#![tactic(auto)]
+
 ghost use Rattle.std.specs.Prelude.{◌≡◌, true, suc, ◌<◌, get_or};
 ghost use Rattle.path.specs.inner.Sizes.{Sizes};
 ghost use Rattle.flight.specs.HandedIn.{flight_of, numbers_within};
@@ -17,7 +19,7 @@ use sensed::sign_of;
 use stretches::stretch_at;
 
 // A whole second of a flight: the stretch that owns it, by its index, the seconds left of that stretch, and the motion. At the flight's end none is left.
-#[derive(Drop)]
+#[derive(Clone, Copy)]
 struct Place {
     second: u64,
     stretch: usize,

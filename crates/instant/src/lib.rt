@@ -1,4 +1,5 @@
 // Rational times: their order, and their lowest terms.
+#![tactic(auto)]
 
 ghost use Rattle.std.specs.Prelude.{◌≡◌, min};
 ghost use Rattle.std.specs.Int.Count.{count_trailing_zeros};
@@ -7,21 +8,21 @@ ghost use Rattle.instant.specs.inner.Sizes.{SizedInstant};
 ghost use Rattle.instant.specs.Lowest.{gcd, lowest};
 
 // The rational time n/m, in seconds; a time has m ≥ 1.
-#[derive(Drop)]
+#[derive(Clone, Copy)]
 pub struct Instant {
     pub n: u64,
     pub m: u64,
 }
 
 // An instant, or none.
-#[derive(Drop)]
+#[derive(Clone, Copy)]
 pub enum Moment {
     At(Instant),
     Never,
 }
 
 // A time as it is shown: whole seconds, and remainder/divisor of a second in lowest terms.
-#[derive(Drop)]
+#[derive(Clone, Copy)]
 pub struct Time {
     pub seconds: u64,
     pub remainder: u64,

@@ -1,4 +1,6 @@
 // The judge of plain numbers. `specs/` says what each answer is.
+#![tactic(auto)]
+
 ghost use Rattle.std.specs.Prelude.{◌≡◌};
 ghost use Rattle.judge.specs.Answers.{answer, sidesNumber, answerRecord};
 
@@ -6,7 +8,7 @@ use question::{Checked, Encounter, Question, Settings};
 use refusals::check_question;
 use verdict::{ClearSides, Verdict, verdict_on};
 
-#[derive(Drop)]
+#[derive(Clone, Copy)]
 pub enum Answer {
     Judged(Verdict),
     Refused(u8),

@@ -1,4 +1,6 @@
 // The program: a question sheet from standard input, its answer to standard output. The rooms and what is written are `program`'s.
+#![tactic(auto)]
+
 use program::{program_output, read_room};
 
 const STANDARD_INPUT: i32 = 0;

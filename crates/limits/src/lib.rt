@@ -1,5 +1,6 @@
 // Document 01's table of limits as the code's constants, in its order. `specs/Limits.antt` is the table; the tests of the fields, in `question` and
 // `refusals`, are proved against it.
+#![tactic(auto)]
 
 // r, distance ahead
 pub const MAX_DISTANCE: i64 = 12000000;

@@ -1,13 +1,14 @@
 // The question that the paths answer, with heights and speeds in the advisory's sense. `specs/Letters.antt` gives document 01's letter for each field.
+#![tactic(auto)]
 
 // Until when a question looks.
-#[derive(Drop)]
+#[derive(Clone, Copy)]
 pub enum Limit {
     Unlimited,
     Upto(u64),
 }
 
-#[derive(Drop)]
+#[derive(Clone, Copy)]
 pub struct SensedQuestion {
     // Horizontally: the distance ahead, negative where the intruder has passed, and the speed at which it shrinks.
     pub distance: i64,
@@ -30,7 +31,7 @@ pub struct SensedQuestion {
 }
 
 // One-sided, the side is the lower one.
-#[derive(Drop)]
+#[derive(Clone, Copy)]
 pub enum Side {
     Lower,
     Upper,

@@ -1,4 +1,6 @@
 // The pieces of the lower path, in whole numbers: exact 64-bit code for the definitions in `specs/`. Locals bear document 01's letters (`path`, specs/Letters.antt).
+#![tactic(auto)]
+
 ghost use Rattle.std.specs.Prelude.{◌≡◌, ◌≤◌};
 ghost use Rattle.instant.specs.Order.{◌÷◌};
 ghost use Rattle.path.specs.inner.Sizes.{Sizes};
@@ -9,7 +11,7 @@ use instant::{Instant, no_later};
 use path::{SensedQuestion, Side};
 
 // A piece of path: from when it holds, and the coefficients of t², t and 1, times 2·a.
-#[derive(Drop)]
+#[derive(Clone, Copy)]
 pub struct WholePiece {
     pub from: Instant,
     pub square: i64,

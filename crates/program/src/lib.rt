@@ -1,4 +1,6 @@
 // What the program does between reading and writing: the rooms for a sheet and for its answer, and the bytes to write. `specs/` says what these are.
+#![tactic(auto)]
+
 ghost use Rattle.std.specs.Prelude.{◌≡◌, length, replicate};
 ghost use Rattle.program.specs.Output.{read_room, program_output, area_with};
 
@@ -11,7 +13,7 @@ const READ_ROOM: usize = 8193;
 const ANSWER_ROOM: usize = 65536;
 
 // The bytes to write: the first `length` of the area.
-#[derive(Drop)]
+#[derive(Clone, Copy)]
 pub struct Output {
     pub area: [u8; ANSWER_ROOM],
     pub length: usize,

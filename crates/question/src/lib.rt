@@ -1,4 +1,6 @@
 // Encounters, settings and questions of plain numbers, and the tests of their fields against document 01's limits. Its letters stand at the fields.
+#![tactic(auto)]
+
 ghost use Rattle.std.specs.Prelude.{◌≡◌};
 ghost use Rattle.question.specs.StartingSettings.{starting_settings};
 ghost use Rattle.question.specs.Refusals.{climbs, sense_of, two_sided, encounter_within, puck_within, delay_acceleration_within, sides_known};
@@ -10,7 +12,7 @@ use limits::{
 };
 
 // The intruder seen from the ownship: r, h, c, v, vi.
-#[derive(Drop)]
+#[derive(Clone, Copy)]
 pub struct Encounter {
     pub distance: i64,
     pub height: i64,
@@ -20,7 +22,7 @@ pub struct Encounter {
 }
 
 // What the person who sets the questions may change: the puck p by k, and the delay acceleration e.
-#[derive(Drop)]
+#[derive(Clone, Copy)]
 pub struct Settings {
     pub radius: i64,
     pub half_height: i64,
@@ -47,7 +49,7 @@ impl Settings {
 }
 
 // A free question: sides, sense, target, upper target, a, b, d, limit.
-#[derive(Drop)]
+#[derive(Clone, Copy)]
 pub struct Question {
     pub sides: i64,
     pub sense: i64,
@@ -60,7 +62,7 @@ pub struct Question {
 }
 
 // What the tests of plain numbers say: accepted, or the refusal's number.
-#[derive(Drop)]
+#[derive(Clone, Copy)]
 pub enum Checked {
     Accepted,
     Refused(u8),

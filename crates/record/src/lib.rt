@@ -1,4 +1,6 @@
 // A sheet's records: numbers, kinds and bodies, decoded in one place; and the refusals of a whole sheet that kinds and lengths decide. `specs/` says what each is.
+#![tactic(auto)]
+
 ghost use Rattle.std.specs.Prelude.{◌≡◌, ◌+◌, ◌≤◌, ◌<◌, length, drop, pos};
 ghost use Rattle.record.specs.Numbers.{byte_at, short_at, word_at, signed, number_at};
 ghost use Rattle.record.specs.Kinds.{kind_of, body_length, known};
@@ -7,7 +9,7 @@ ghost use Rattle.record.specs.SheetCheck.{fault_after, sheet_check};
 
 use question::{Checked, Encounter, Question};
 
-#[derive(Drop)]
+#[derive(Clone, Copy)]
 pub enum Kind {
     Encounter,
     Puck,
@@ -18,7 +20,7 @@ pub enum Kind {
 }
 
 // A record with its numbers: r, h, c, v, vi; p, k; e; code, limit; a free question. One of unknown kind has none.
-#[derive(Drop)]
+#[derive(Clone, Copy)]
 pub enum Record {
     Encounter(Encounter),
     Puck(i64, i64),

@@ -1,4 +1,6 @@
 // Refusals 1 to 6 and 14 to 16: what a question must meet besides the fields' limits, and the tests in their order. The conditions are `question`'s specs/Refusals.antt.
+#![tactic(auto)]
+
 ghost use Rattle.std.specs.Prelude.{◌≡◌, ◌&&◌};
 ghost use Rattle.std.specs.Int.Signed.{le_z};
 ghost use Rattle.limits.specs.Limits.{strength_within, delay_within};

@@ -1,4 +1,6 @@
 // The bytes of an answer record, and writing them into an area. `specs/` says what the bytes are.
+#![tactic(auto)]
+
 ghost use Rattle.std.specs.Prelude.{◌≡◌, ◌+◌, ◌≤◌, length};
 ghost use Rattle.std.proofs.lemmas.List.Edits.{sets};
 ghost use Rattle.judge.specs.declared.Answer.TheVariants.{Judged};
@@ -11,7 +13,7 @@ use judge::{Answer, sides_number};
 use verdict::Verdict;
 
 // What a record is answered: nothing, or an answer record.
-#[derive(Drop)]
+#[derive(Clone, Copy)]
 pub enum Reply {
     Silent,
     Answered(Answer),

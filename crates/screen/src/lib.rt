@@ -1,4 +1,6 @@
 // The path on the screen: the pieces of the lower path with 64-bit floats, and the point of each whole second. `specs/` says what they are.
+#![tactic(auto)]
+
 ghost use Rattle.std.specs.Prelude.{◌≡◌, ◌≤◌};
 ghost use Rattle.path.specs.inner.Sizes.{Sizes};
 ghost use Rattle.pieces.specs.Pieces.{last_second};
@@ -17,21 +19,21 @@ use sensed::sensed_question;
 const LAST_SECOND: u64 = 600;
 
 // A stretch of path with its coefficients: an arc of t², t and 1, a straight of t and 1.
-#[derive(Drop)]
+#[derive(Clone, Copy)]
 pub enum Piece {
     Arc(f64, f64, f64),
     Straight(f64, f64),
 }
 
 // A piece, and the time from which it holds.
-#[derive(Drop)]
+#[derive(Clone, Copy)]
 pub struct DrawnPiece {
     pub from: Time,
     pub piece: Piece,
 }
 
 // One to three pieces in time's order, or the refusal's number.
-#[derive(Drop)]
+#[derive(Clone, Copy)]
 pub enum Drawing {
     Refused(u8),
     One(DrawnPiece),
@@ -39,13 +41,13 @@ pub enum Drawing {
     Three(DrawnPiece, DrawnPiece, DrawnPiece),
 }
 
-#[derive(Drop)]
+#[derive(Clone, Copy)]
 pub struct ScreenPoint {
     pub time: f64,
     pub height: f64,
 }
 
-#[derive(Drop)]
+#[derive(Clone, Copy)]
 pub enum PointAnswer {
     Refused(u8),
     Drawn(ScreenPoint),

@@ -2,6 +2,7 @@
 //
 // Locals bear document 01's letters and those of `flight` (specs/inner/Parts.antt): τ into the second the height has gained v·τ + g·τ²/2. All heights here are
 // twice the height. x/y and z/y are the ends of a part of the second.
+#![tactic(auto)]
 
 ghost use Rattle.std.specs.Prelude.{◌≡◌, ◌≤◌, ◌+ℤ◌};
 ghost use Rattle.limits.specs.Limits.{max_closing_speed, max_flight_seconds};
@@ -22,7 +23,7 @@ use path::SensedQuestion;
 use window::{absolute, distance_at, positive_part};
 
 // How a flight moves at the second's first instant, in the question's sense: twice its height, its speed, and the acceleration that it keeps for the second.
-#[derive(Drop)]
+#[derive(Clone, Copy)]
 pub struct Motion {
     pub height: i64,
     pub speed: i64,
@@ -132,7 +133,7 @@ fn clamp(edge: i64) -> i64
 }
 
 // An edge to reach within the second, measured from the height at n, and the quadratic that is to reach it, 2·v·τ + g·τ².
-#[derive(Drop)]
+#[derive(Clone, Copy)]
 struct Approach {
     edge: i64,
     speed: i64,

@@ -1,4 +1,6 @@
 // An accepted question in its sense. `specs/` says what that is.
+#![tactic(auto)]
+
 ghost use Rattle.std.specs.Prelude.{◌≡◌};
 ghost use Rattle.advisory.specs.Sign.{sign};
 ghost use Rattle.question.specs.declared.Checked.TheVariants.{Accepted};
@@ -12,7 +14,7 @@ use question::{Encounter, Question, Settings, sense_of};
 use window::positive_part;
 
 // The intruder's sensed height w × h, and the sensed speeds u, q and that of the upper target.
-#[derive(Drop)]
+#[derive(Clone, Copy)]
 struct Motion {
     level: i64,
     speed: i64,

@@ -1,4 +1,6 @@
 // A question sheet, its records answered in order into an area that the caller lends. `specs/` says what the answer and each outcome are.
+#![tactic(auto)]
+
 ghost use Rattle.std.specs.Prelude.{◌≡◌, ◌+◌, ◌≤◌, leb, length};
 ghost use Rattle.std.proofs.lemmas.List.Edits.{sets};
 ghost use Rattle.question.specs.declared.Checked.TheVariants.{Accepted};
@@ -13,7 +15,7 @@ use record::{check_sheet, next_at, record_at};
 use reply::{Reply, reply_length, write_reply};
 
 // Accepted, with the answer's length; or refused, with the number.
-#[derive(Drop)]
+#[derive(Clone, Copy)]
 pub enum Outcome {
     Accepted(usize),
     Refused(u8),

@@ -1,6 +1,8 @@
 // Answers each sheet whose file an argument names: a line with the name, and the bytes that the program `lifgorund` would write, in hex: the rooms and
 // the answering are those of that program.
 // `cargo run --profile checked --bin sheets ../crates/sheets`, run in `compare/`, writes the files, `args` and `stdout`: the answers are the independent implementation's.
+#![tactic(auto)]
+
 use program::{program_output, read_room};
 
 const STANDARD_OUTPUT: i32 = 1;

@@ -1,4 +1,6 @@
 // The time shown on a side: the first of the rule's instants with a conflict, or, where the window has no end, the first whole second with one.
+#![tactic(auto)]
+
 ghost use Rattle.std.specs.Prelude.{◌≡◌, ◌++◌};
 ghost use Rattle.instant.specs.declared.Moment.TheVariants.{At, Never};
 ghost use Rattle.instant.specs.Order.{◌÷◌};
@@ -125,7 +127,7 @@ fn from_end(side: Side, s: SensedQuestion) -> Moment
 }
 
 // Where the path's lowest point after the delay lies.
-#[derive(Drop)]
+#[derive(Clone, Copy)]
 enum LowestPoint {
     // Not after the window's start: the path rises from there on.
     Passed,

@@ -1,5 +1,7 @@
 // A flight's numbers, as they are handed in: pairs, each a stretch's acceleration and seconds. `flight` says which flight they are and which are outside the
 // limits; here are the tests and the stretches.
+#![tactic(auto)]
+
 ghost use Rattle.std.specs.Prelude.{◌≡◌, ◌&&◌, ◌≤◌, leb, length, get_or};
 ghost use Rattle.limits.specs.Limits.{max_stretches, max_flight_seconds};
 ghost use Rattle.flight.specs.Flight.{duration};

@@ -2,6 +2,8 @@
 // cases, of answers that differ from those in the file, and of answers of each kind.
 // `cargo run --profile checked --bin vectors ../crates/vectors`, run in `compare/`, writes the files, `args` and `stdout`: the answers are the independent implementation's.
 // The program is proved safe. That it sees a difference is shown by the file `planted`, whose answers are wrong.
+#![tactic(auto)]
+
 ghost use Rattle.std.specs.Prelude.{◌+◌, ◌≤◌, length};
 ghost use Rattle.io.specs.Counts.{IsPrefixLen};
 
@@ -22,7 +24,7 @@ const CASE: usize = 200;
 const ROOM: usize = 103000;
 
 // An answer's kind and its numbers, 0 where it has fewer than six.
-#[derive(Drop)]
+#[derive(Clone, Copy)]
 struct Numbers {
     kind: u64,
     first: u64,
@@ -33,7 +35,7 @@ struct Numbers {
     sixth: u64,
 }
 
-#[derive(Drop)]
+#[derive(Clone, Copy)]
 struct Report {
     cases: u64,
     differences: u64,

@@ -1,4 +1,6 @@
 // The verdict on an accepted question. `specs/` says what it is.
+#![tactic(auto)]
+
 ghost use Rattle.std.specs.Prelude.{◌≡◌, true};
 ghost use Rattle.instant.specs.declared.Moment.TheVariants.{At, Never};
 ghost use Rattle.path.specs.declared.Side.TheVariants.{Lower, Upper};
@@ -17,7 +19,7 @@ use shown::time_shown;
 use window::opening;
 
 // The sides without a conflict time.
-#[derive(Drop)]
+#[derive(Clone, Copy)]
 pub enum ClearSides {
     Lower,
     Upper,
@@ -25,7 +27,7 @@ pub enum ClearSides {
 }
 
 // Clear, or a conflict that carries its time; a two-sided conflict carries two, the lower one first.
-#[derive(Drop)]
+#[derive(Clone, Copy)]
 pub enum Verdict {
     Clear(ClearSides),
     Conflict(Time),

@@ -1,5 +1,7 @@
 // The window at an instant n/m, its first time and its end: exact 64-bit code for the definitions of `path`.
 // Locals bear document 01's letters (`path`, specs/Letters.antt).
+#![tactic(auto)]
+
 ghost use Rattle.std.specs.Prelude.{◌≡◌, ◌<◌, ◌^◌, nat_abs};
 ghost use Rattle.integers.specs.Extremes.{max0};
 ghost use Rattle.path.specs.declared.Side.TheVariants.{Lower};

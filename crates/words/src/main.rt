@@ -1,5 +1,7 @@
 // Answers question sheets in words. Each argument names a sheet's file; `-` is standard input.
 // What is said of a record is the reply that `answering::reply_to` gives it: nothing is judged here.
+#![tactic(auto)]
+
 ghost use Rattle.std.specs.Prelude.{◌≡◌, ◌≤◌, nat_abs};
 ghost use Rattle.question.specs.declared.Checked.TheVariants.{Accepted};
 ghost use Rattle.record.specs.SheetCheck.{sheet_check};
@@ -21,14 +23,14 @@ const STANDARD_OUTPUT: i32 = 1;
 const SHEET_ROOM: usize = 8193;
 
 // The encounter that was accepted last, and the number of its record.
-#[derive(Drop)]
+#[derive(Clone, Copy)]
 enum Met {
     Nothing,
     Encounter(usize, Encounter),
 }
 
 // What the words need of the records before: the encounter, and of each setting the number of its last record if that was refused, else 0.
-#[derive(Drop)]
+#[derive(Clone, Copy)]
 struct Notes {
     met: Met,
     refused_encounter: usize,
@@ -37,7 +39,7 @@ struct Notes {
 }
 
 // Where a record stands: its number, from 1, and the position of its kind's byte, from 0.
-#[derive(Drop)]
+#[derive(Clone, Copy)]
 struct Place {
     record: usize,
     byte: usize,
