@@ -1,0 +1,10 @@
+-- `instant::short_gcd` meets its contract: as for `gcd`, and where y is 1 the last step is known, since gcd(x, 1) computes to 1.
+use mathlib.Core.Path.{◌≡◌}
+use Rattle.instant.specs.Lowest.{gcd}
+use Rattle.instant.proofs.short_gcd.Given as goal
+
+abbrev pub invariant-loop-y : goal.invariant-loop-y
+invariant-loop-y l = gcd l.x l.y ≡ gcd l.a l.b
+
+abbrev pub decreases-loop-y : goal.decreases-loop-y
+decreases-loop-y l = l.y
