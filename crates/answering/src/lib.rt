@@ -79,6 +79,7 @@ fn with_encounter(state: State, encounter: Encounter) -> State
     }
 }
 
+#[tactic(auto, unfolding(crate::specs::States::state_after))]
 pub fn state_after(state: State, given: Record) -> State
     ensures { result ≡ state_after state given }
 {
@@ -122,6 +123,7 @@ fn settings_reply(accepted: bool, number: u8) -> Reply
     }
 }
 
+#[tactic(auto, unfolding(crate::specs::Replies::coded_answer))]
 fn coded_answer(encounter: LastEncounter, settings: Settings, code: u8, limit: i64) -> Answer
     ensures { answerRecord result ≡ answerRecord (coded_answer encounter settings code limit) }
 {
@@ -134,6 +136,7 @@ fn coded_answer(encounter: LastEncounter, settings: Settings, code: u8, limit: i
     }
 }
 
+#[tactic(auto, unfolding(crate::specs::Replies::free_answer))]
 fn free_answer(encounter: LastEncounter, settings: Settings, question: Question) -> Answer
     ensures { answerRecord result ≡ answerRecord (free_answer encounter settings question) }
 {
@@ -143,6 +146,7 @@ fn free_answer(encounter: LastEncounter, settings: Settings, question: Question)
     }
 }
 
+#[tactic(auto, unfolding(crate::specs::Replies::reply_to))]
 pub fn reply_to(state: State, given: Record) -> Reply
     ensures { reply_record result ≡ reply_record (reply_to state given) }
 {
