@@ -1,11 +1,11 @@
 -- The numbers that C and Rust get hold the answer record, and the outcome of a sheet: no refusal of a sheet is numbered 0. Assumes nothing.
-use mathlib.Core.Path.{◌≡◌, refl, sym, ap, ◌∙◌}
+use mathlib.Core.Path.{◌≡◌, refl, ap, ◌∙◌}
 use mathlib.Core.Bool.{Bool, true, false, cond}
 use mathlib.Core.List.{List, [], ◌∷◌}
 use Prim.Native.Nat.{ℕ, zero, suc, ◌<◌}
 use native.Mathlib.Omega.{arith}
 use borrow.Author.Tests.{ne_eqb}
-use lib.Dec.{leb, eqb}
+use lib.Dec.{leb}
 use lib.ListN.{length}
 use Rattle.integers.proofs.Branches.{picks_no}
 use Rattle.question.specs.declared.Encounter.{Encounter}
@@ -21,7 +21,6 @@ use Rattle.sheet.specs.declared.Outcome.{Outcome}
 use Rattle.sheet.specs.declared.Outcome.TheVariants.{Accepted, Refused}
 use Rattle.sheet.specs.WholeSheet.{sheet_answer, outcome_for, outcome}
 use Rattle.binding.specs.declared.JudgeResult.{JudgeResult}
-use Rattle.binding.specs.declared.SheetResult.{SheetResult}
 use Rattle.binding.specs.Flat.{flat_answer, flat_outcome}
 use Rattle.demands.specs.PlainAnswer.{record_in, RightlyExported}
 use Rattle.demands.specs.Sheets.{outcome_in}

@@ -12,8 +12,6 @@ use Rattle.path.specs.declared.SensedQuestion.{SensedQuestion}
 use Rattle.question.specs.declared.Encounter.{Encounter}
 use Rattle.question.specs.declared.Settings.{Settings}
 use Rattle.question.specs.declared.Checked.{Checked}
-use Rattle.question.specs.Refusals.{refusal}
-use Rattle.sensed.specs.Sensed.{sensed_question}
 use Rattle.verdict.specs.declared.ClearSides.{ClearSides}
 use Rattle.verdict.specs.declared.Verdict.{Verdict}
 use Rattle.verdict.specs.declared.Verdict.TheVariants.{Clear}
@@ -34,14 +32,14 @@ use Rattle.flight.proofs.InsideTests.{right_entry}
 use Rattle.flight.proofs.ClearVerdict.{accepted_half_height, clear_never_inside}
 use Rattle.candidate.specs.declared.OneSidedAdvice.{OneSidedAdvice}
 use Rattle.candidate.specs.declared.FlightAnswer.{FlightAnswer}
-use Rattle.candidate.specs.declared.FlightAnswer.TheVariants.{Refused, Flown}
+use Rattle.candidate.specs.declared.FlightAnswer.TheVariants.{Flown}
 use Rattle.candidate.specs.Advice.{asked, flight_checks, flight_refusal}
 use Rattle.candidate.specs.FlightAnswers.{advice_in_sense, flight_in_sense, checked_flight, flight_answer, flight_record}
 use Rattle.candidate.proofs.RefusedAsAsked.{accepted_flight}
 use Rattle.candidate.proofs.FlightRecords.{flight_determined}
 use Rattle.binding.specs.declared.FlightResult.{FlightResult}
 use Rattle.binding.specs.Flight.{flat_flight}
-use Rattle.demands.specs.Flights.{FlownAs, RightlyFlown, ClearKeepsOut, flight_in}
+use Rattle.demands.specs.Flights.{RightlyFlown, ClearKeepsOut, flight_in}
 use Rattle.demands.proofs.ScreenExported.{first_number}
 
 -- a flown flight was accepted, and the answer is that of the tests

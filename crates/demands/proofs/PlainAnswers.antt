@@ -1,6 +1,6 @@
 -- The demands of an answer to plain numbers, from the judge's theorems: demand 3 with its conflict times spelled out, demand 2 for one-sided questions, the band for
 -- two-sided ones. Assumes nothing.
-use mathlib.Core.Path.{◌≡◌, refl, sym, ap, subst, ◌∙◌}
+use mathlib.Core.Path.{◌≡◌, refl, sym, ap, subst}
 use mathlib.Core.Bool.{Bool, true, false}
 use mathlib.Core.Logic.Iff
 use mathlib.Core.Logic.{◌↔◌}
@@ -32,7 +32,7 @@ use Rattle.judge.proofs.WithoutDelay.{answer_without_delay}
 use Rattle.region.proofs.VerdictRegion.{clear_is_delayed_region, clear_is_immediate_region}
 use Rattle.band.proofs.AcceptedBand.{clear_outside_band}
 use Rattle.demands.specs.Demand2.{Demand2}
-use Rattle.demands.specs.Demand3.{WithinLimit, NotStrictlyBeyond, ConflictAt, SomeConflict, ConflictOnEachSide, SaysConflict, Shown, Said, Demand3}
+use Rattle.demands.specs.Demand3.{WithinLimit, NotStrictlyBeyond, ConflictAt, SomeConflict, ConflictOnEachSide, SaysConflict, Shown, Said}
 use Rattle.demands.specs.PlainAnswer.{JudgedAs, RightlyAnswered}
 
 -- ---- conflict times spelled out

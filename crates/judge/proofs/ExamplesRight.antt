@@ -1,6 +1,5 @@
 -- M1 to M15 are accepted and answered as the table has it, each by one test computed over the table; that each answer is right is demand 3. Assumes nothing.
-use mathlib.Core.Path.{◌≡◌, refl, sym, ap, subst, ◌∙◌}
-use mathlib.Core.Bool.{Bool, true, false}
+use mathlib.Core.Path.{◌≡◌, refl}
 use mathlib.Core.List.{List, [], ◌∷◌, map}
 use mathlib.Core.Logic.{⊎_elim}
 use Prim.Native.Nat.{ℕ}
@@ -10,13 +9,12 @@ use Rattle.advisory.specs.ReactionTable.{reaction_table}
 use Rattle.advisory.specs.Advised.{advised_of}
 use Rattle.path.specs.Instants.{Among}
 use Rattle.question.specs.declared.Encounter.{Encounter}
-use Rattle.question.specs.declared.Question.{Question}
 use Rattle.question.specs.declared.Checked.{Checked}
 use Rattle.question.specs.Refusals.{refusal}
 use Rattle.question.specs.StartingSettings.{starting_settings}
 use Rattle.coded.specs.declared.CodedQuestion.{CodedQuestion}
 use Rattle.coded.specs.Coded.{coded_question}
-use Rattle.judge.specs.Answers.{AnswerRecord, answer, answerRecord}
+use Rattle.judge.specs.Answers.{answer, answerRecord}
 use Rattle.judge.specs.Examples.{Example, examples}
 use Rattle.judge.proofs.ExampleAnswers.{answer_to, answered}
 use Rattle.judge.proofs.ExamplesHold.{examples_hold}

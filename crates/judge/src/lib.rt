@@ -26,6 +26,7 @@ pub fn sides_number(sides: ClearSides) -> u8
 }
 
 // The entry for plain numbers: any 64-bit values.
+#[tactic(auto, unfolding(crate::specs::Answers::answer))]
 pub fn judge(encounter: Encounter, settings: Settings, question: Question) -> Answer
     ensures { answerRecord result ≡ answerRecord (answer encounter settings question) }
 {
