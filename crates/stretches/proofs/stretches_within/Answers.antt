@@ -1,4 +1,4 @@
--- `stretches::stretches_within` meets its contract..
+-- `stretches::stretches_within` meets its contract.
 use mathlib.Core.Path.{sym, ap, subst, ◌∙◌}
 use Prim.Native.Nat.{ℕ, suc, ◌+◌}
 use native.Mathlib.Omega.{arith}
