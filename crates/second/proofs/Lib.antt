@@ -1,4 +1,2 @@
 pub mod Fields
-pub mod NearSeconds
-pub mod Clamping
 pub mod ApproachSizes
