@@ -5,7 +5,6 @@ use Prim.Native.Nat.{ℕ}
 use native.Mathlib.Omega.{arith}
 use lib.ListN.{get_or}
 use Rattle.judge.specs.Answers.{AnswerRecord}
-use Rattle.flight.specs.declared.PuckEntry.{PuckEntry}
 use Rattle.flight.specs.declared.PuckEntry.TheVariants.{Never, During}
 use Rattle.candidate.specs.declared.FlightAnswer.{FlightAnswer}
 use Rattle.candidate.specs.declared.FlightAnswer.TheVariants.{Refused, Flown}

@@ -1,17 +1,16 @@
 -- An advice is refused as the one-sided question that it asks: 15 and 16 cannot occur, since it has no upper fields, and 4 only for its sense. So a flight is
 -- refused like that question, and an accepted question's flight with 18 alone. Assumes nothing.
-use mathlib.Core.Path.{◌≡◌, refl, sym, ap, ◌∙◌}
+use mathlib.Core.Path.{◌≡◌, refl, sym, ◌∙◌}
 use mathlib.Core.Bool.{Bool, true, false, cond, ◌&&◌}
 use mathlib.Core.List.{List, [], ◌∷◌}
 use Prim.Native.Nat.{ℕ}
 use native.Mathlib.Omega.{arith}
 use lib.IntN.{ℤ}
-use Rattle.limits.specs.Limits.{target_within, strength_within, delay_within}
-use Rattle.integers.proofs.Branches.{picks_yes, picks_no}
+use Rattle.limits.specs.Limits.{target_within, strength_within}
 use Rattle.question.specs.declared.Encounter.{Encounter}
 use Rattle.question.specs.declared.Settings.{Settings}
 use Rattle.question.specs.declared.Checked.{Checked}
-use Rattle.question.specs.Refusals.{Check, check, first_refusal, plain_checks, refusal}
+use Rattle.question.specs.Refusals.{check, first_refusal, refusal}
 use Rattle.refusals.proofs.TestedInOrder.{accepted_first, refused_first, both_accept}
 use Rattle.flight.specs.HandedIn.{numbers_within}
 use Rattle.candidate.specs.declared.OneSidedAdvice.{OneSidedAdvice}
@@ -25,7 +24,7 @@ not_asked false = refl
 module _ (x : Encounter) (y : Settings) (z : OneSidedAdvice) where
   pub refused_as_asked : refusal x y (asked z) ≡ first_refusal (advice_checks x y z)
   unfolding refusal
-  refused_as_asked = simp (not_asked (target_within z.target), not_asked (strength_within z.strength), not_asked (delay_within z.delay))
+  refused_as_asked = simp (not_asked (target_within z.target), not_asked (strength_within z.strength))
 
   module _ (l : List ℤ) where
     -- a refused advice keeps its number, whatever the flight

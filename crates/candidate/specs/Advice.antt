@@ -1,6 +1,6 @@
 -- "Say whether it obeys a one-sided advice": the advice, the question that it asks, and what is refused. x is an encounter, y the settings, z an advice, l a
 -- flight's numbers.
-use Rattle.std.specs.Prelude.{Bool, ◌&&◌, ◌||◌, List, [], ◌∷◌, ◌++◌, ℤ, pos}
+use Rattle.std.specs.Prelude.{◌&&◌, ◌||◌, List, [], ◌∷◌, ◌++◌, ℤ, pos}
 use Rattle.limits.specs.Limits.{target_within, strength_within, delay_within, limit_within, no_limit}
 use Rattle.question.specs.declared.Encounter.{Encounter}
 use Rattle.question.specs.declared.Settings.{Settings}

@@ -9,7 +9,6 @@ use Rattle.question.specs.Refusals.{sense_of}
 use Rattle.sensed.specs.Sensed.{sensed_question}
 use Rattle.judge.specs.Answers.{AnswerRecord, answers}
 use Rattle.flight.specs.declared.Stretch.{Stretch}
-use Rattle.flight.specs.declared.PuckEntry.{PuckEntry}
 use Rattle.flight.specs.declared.PuckEntry.TheVariants.{Never, During}
 use Rattle.flight.specs.HandedIn.{flight_of}
 use Rattle.flight.specs.SensedFlight.{sensed_flight}

@@ -1,6 +1,6 @@
 -- What became of MCL and MDES. Document 01's rule for questions by code, before document 02 gave 17 to those that are never issued, and that nothing else changed: 17 is for
 -- code 10 with v < 0 and code 9 with v > 0 exactly, and every other question by code is what it was. Assumes nothing.
-use mathlib.Core.Path.{◌≡◌, refl, sym, subst, ap, ap₂, ◌∙◌}
+use mathlib.Core.Path.{◌≡◌, refl, subst, ap, ap₂, ◌∙◌}
 use mathlib.Core.Bool.{Bool, true, false, cond, not, ◌&&◌, ◌||◌}
 use mathlib.Core.Logic.{◌⊎◌, inl, inr, ⊎_elim, ◌↔◌}
 use Prim.Native.Nat.{ℕ}

@@ -1,11 +1,11 @@
 -- The numbers that C and Rust get hold the answer record, and the outcome of a sheet: no refusal of a sheet is numbered 0. Assumes nothing.
-use mathlib.Core.Path.{◌≡◌, refl, sym, ap, ◌∙◌}
+use mathlib.Core.Path.{◌≡◌, refl, ap, ◌∙◌}
 use mathlib.Core.Bool.{Bool, true, false, cond}
 use mathlib.Core.List.{List, [], ◌∷◌}
 use Prim.Native.Nat.{ℕ, zero, suc, ◌<◌}
 use native.Mathlib.Omega.{arith}
 use borrow.Author.Tests.{ne_eqb}
-use lib.Dec.{leb, eqb}
+use lib.Dec.{leb}
 use lib.ListN.{length}
 use Rattle.integers.proofs.Branches.{picks_no}
 use Rattle.question.specs.declared.Encounter.{Encounter}
@@ -14,21 +14,20 @@ use Rattle.question.specs.declared.Question.{Question}
 use Rattle.question.specs.declared.Checked.{Checked}
 use Rattle.verdict.specs.declared.Verdict.TheVariants.{Clear, Conflict, Conflicts}
 use Rattle.judge.specs.declared.Answer.{Answer}
-use Rattle.judge.specs.Answers.{answer, answerRecord}
+use Rattle.judge.specs.Answers.{answer, answer_record}
 use Rattle.record.specs.Kinds.{known, kind_of, body_length}
 use Rattle.record.specs.SheetCheck.{longest_sheet, fault_after, sheet_check}
 use Rattle.sheet.specs.declared.Outcome.{Outcome}
 use Rattle.sheet.specs.declared.Outcome.TheVariants.{Accepted, Refused}
 use Rattle.sheet.specs.WholeSheet.{sheet_answer, outcome_for, outcome}
 use Rattle.binding.specs.declared.JudgeResult.{JudgeResult}
-use Rattle.binding.specs.declared.SheetResult.{SheetResult}
 use Rattle.binding.specs.Flat.{flat_answer, flat_outcome}
 use Rattle.demands.specs.PlainAnswer.{record_in, RightlyExported}
 use Rattle.demands.specs.Sheets.{outcome_in}
 use Rattle.demands.proofs.PlainAnswers.{answer_right}
 
 -- ---- an answer
-record_held : (a : Answer) → record_in (flat_answer a) ≡ answerRecord a
+record_held : (a : Answer) → record_in (flat_answer a) ≡ answer_record a
 record_held (Answer.Judged (Clear sides)) = refl
 record_held (Answer.Judged (Conflict t)) = refl
 record_held (Answer.Judged (Conflicts t u)) = refl

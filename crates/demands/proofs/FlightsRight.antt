@@ -12,14 +12,12 @@ use Rattle.path.specs.declared.SensedQuestion.{SensedQuestion}
 use Rattle.question.specs.declared.Encounter.{Encounter}
 use Rattle.question.specs.declared.Settings.{Settings}
 use Rattle.question.specs.declared.Checked.{Checked}
-use Rattle.question.specs.Refusals.{refusal}
-use Rattle.sensed.specs.Sensed.{sensed_question}
 use Rattle.verdict.specs.declared.ClearSides.{ClearSides}
 use Rattle.verdict.specs.declared.Verdict.{Verdict}
 use Rattle.verdict.specs.declared.Verdict.TheVariants.{Clear}
 use Rattle.verdict.specs.Verdicts.{verdict}
 use Rattle.judge.specs.declared.Answer.{Answer}
-use Rattle.judge.specs.Answers.{answer, answerRecord}
+use Rattle.judge.specs.Answers.{answer, answer_record}
 use Rattle.judge.specs.Demand3.{SaysConflict}
 use Rattle.judge.proofs.Demand3.{judged}
 use Rattle.judge.proofs.AnswerRecords.{record_determines}
@@ -34,14 +32,14 @@ use Rattle.flight.proofs.InsideTests.{right_entry}
 use Rattle.flight.proofs.ClearVerdict.{accepted_half_height, clear_never_inside}
 use Rattle.candidate.specs.declared.OneSidedAdvice.{OneSidedAdvice}
 use Rattle.candidate.specs.declared.FlightAnswer.{FlightAnswer}
-use Rattle.candidate.specs.declared.FlightAnswer.TheVariants.{Refused, Flown}
+use Rattle.candidate.specs.declared.FlightAnswer.TheVariants.{Flown}
 use Rattle.candidate.specs.Advice.{asked, flight_checks, flight_refusal}
 use Rattle.candidate.specs.FlightAnswers.{advice_in_sense, flight_in_sense, checked_flight, flight_answer, flight_record}
 use Rattle.candidate.proofs.RefusedAsAsked.{accepted_flight}
 use Rattle.candidate.proofs.FlightRecords.{flight_determined}
 use Rattle.binding.specs.declared.FlightResult.{FlightResult}
 use Rattle.binding.specs.Flight.{flat_flight}
-use Rattle.demands.specs.Flights.{FlownAs, RightlyFlown, ClearKeepsOut, flight_in}
+use Rattle.demands.specs.Flights.{RightlyFlown, ClearKeepsOut, flight_in}
 use Rattle.demands.proofs.ScreenExported.{first_number}
 
 -- a flown flight was accepted, and the answer is that of the tests
@@ -97,7 +95,7 @@ module _ (x : Encounter) (y : Settings) (z : OneSidedAdvice) (l : List ℤ) wher
       said : (v : Verdict) (sides : ClearSides) → Answer.Judged v ≡ Answer.Judged (Clear sides) → v ≡ Clear sides
       said v sides e = cc
 
-  pub kept_out : (r : Answer) (t : FlightAnswer) → answerRecord r ≡ answerRecord (answer x y (asked z)) → flight_record t ≡ flight_record (flight_answer x y z l) → ClearKeepsOut x y z l r t
+  pub kept_out : (r : Answer) (t : FlightAnswer) → answer_record r ≡ answer_record (answer x y (asked z)) → flight_record t ≡ flight_record (flight_answer x y z l) → ClearKeepsOut x y z l r t
   kept_out r t e g =
       subst (λ (j : Answer). ClearKeepsOut x y z l j t) (sym (record_determines r (answer x y (asked z)) e))
       (subst (ClearKeepsOut x y z l (answer x y (asked z))) (sym (flight_determined t (flight_answer x y z l) g)) clear_right)

@@ -6,8 +6,7 @@ use Prim.Native.Nat.{ℕ, ◌<◌}
 use native.Mathlib.Omega.{arith}
 use lib.IntN.{ℤ}
 use Rattle.question.specs.declared.Encounter.{Encounter}
-use Rattle.question.specs.declared.Checked.{Checked}
-use Rattle.question.specs.declared.Checked.TheVariants.{Accepted, Refused}
+use Rattle.question.specs.declared.Checked.TheVariants.{Refused}
 use Rattle.limits.specs.Limits.{limit_within, no_limit}
 use Rattle.question.specs.Refusals.{is_number, check, first_refusal}
 use Rattle.coded.specs.declared.CodedQuestion.{CodedQuestion}

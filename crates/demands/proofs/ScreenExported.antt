@@ -20,8 +20,7 @@ use Rattle.pieces.specs.Pieces.{last_second}
 use Rattle.screen.specs.declared.Piece.{Piece}
 use Rattle.screen.specs.declared.DrawnPiece.{DrawnPiece}
 use Rattle.screen.specs.declared.ScreenPoint.{ScreenPoint}
-use Rattle.screen.specs.declared.PointAnswer.{PointAnswer}
-use Rattle.screen.specs.Drawings.{drawn_pieces, Content, refused, drawn, checked_content, screen_drawing}
+use Rattle.screen.specs.Drawings.{drawn_pieces, drawn, checked_content, screen_drawing}
 use Rattle.screen.specs.Points.{point_at, point_refusal, checked_point, screen_point}
 use Rattle.binding.specs.declared.DrawingResult.{DrawingResult}
 use Rattle.binding.specs.declared.PointResult.{PointResult}

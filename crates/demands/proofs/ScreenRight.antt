@@ -5,15 +5,11 @@ use mathlib.Core.Bool.{Bool, true, false, cond}
 use mathlib.Core.List.{List, [], ◌∷◌, ◌++◌}
 use mathlib.Core.Logic.{◌↔◌, ⊎_elim}
 use Prim.Native.Nat.{ℕ, ◌*◌, ◌+◌, ◌≤◌, ◌<◌}
-use native.Mathlib.Nat.{le_of_lt}
 use native.Mathlib.Omega.{arith}
-use borrow.Author.Tests.{ne_eqb}
 use lib.Dec.{eqb}
 use lib.ListN.{length}
-use lib.IntN.{ℤ, pos}
-use lib.Ieee.{Float}
+use lib.IntN.{pos}
 use Rattle.integers.proofs.Laws.{split≤}
-use Rattle.integers.proofs.Branches.{picks_yes, picks_no}
 use Rattle.instant.specs.declared.Instant.{Instant}
 use Rattle.instant.specs.declared.Time.{Time}
 use Rattle.instant.specs.Order.{◌÷◌, ◌≼◌, ◌≺◌, ◌≈◌}
@@ -33,21 +29,21 @@ use Rattle.question.specs.Refusals.{is_number, refusal}
 use Rattle.sensed.specs.Sensed.{sensed_question}
 use Rattle.sensed.proofs.AcceptedSizes.{accepted_sizes}
 use Rattle.pieces.specs.declared.WholePiece.{WholePiece}
-use Rattle.pieces.specs.Pieces.{missing_speed, delay_piece, arc_piece, last_piece, unless, pieces, piece_at, piece_height}
+use Rattle.pieces.specs.Pieces.{missing_speed, delay_piece, arc_piece, last_piece, unless, piece_at, piece_height}
 use Rattle.pieces.specs.inner.PieceSizes.{PieceSizes}
-use Rattle.pieces.specs.RightPieces.{InOrder, FollowPath, FromStart, meeting_times, RightPieces}
+use Rattle.pieces.specs.RightPieces.{InOrder, FollowPath, FromStart, meeting_times}
 use Rattle.pieces.proofs.Fields.{delay_sizes, arc_sizes, last_sizes}
 use Rattle.pieces.proofs.PathPieces.{right_pieces}
 use Rattle.screen.specs.declared.Piece.{Piece}
 use Rattle.screen.specs.declared.DrawnPiece.{DrawnPiece}
 use Rattle.screen.specs.declared.PointAnswer.{PointAnswer}
-use Rattle.screen.specs.Floats.{float, Exactly}
-use Rattle.screen.specs.Drawings.{float_piece, drawn_piece, all_drawn, drawn_pieces, Content, drawn, checked_content, screen_drawing}
-use Rattle.screen.specs.Points.{evaluated, point_at, screen_point}
-use Rattle.screen.specs.RightScreen.{IsStraight, ExactPiece, ExactOnTheWay, RightPoint, RightPointAnswer}
+use Rattle.screen.specs.Floats.{float}
+use Rattle.screen.specs.Drawings.{float_piece, drawn_piece, all_drawn, drawn_pieces, drawn, checked_content, screen_drawing}
+use Rattle.screen.specs.Points.{screen_point}
+use Rattle.screen.specs.RightScreen.{IsStraight, ExactPiece, ExactOnTheWay, RightPointAnswer}
 use Rattle.screen.proofs.Evaluation.{evaluated_exact}
 use Rattle.screen.proofs.DrawnPath.{exact_piece, accepted_second, second_above, refused_second, refused_drawing}
-use Rattle.demands.specs.Screen.{IsFloat, HasCoefficients, BeforeNext, HasLength, DrawsStretch, EachDraws, StartsAt, times, later_times, rule_changes, Kept, DrawsPath, RightlyDrawn, OnPath, RightlyPlaced}
+use Rattle.demands.specs.Screen.{HasCoefficients, BeforeNext, HasLength, DrawsStretch, EachDraws, StartsAt, later_times, rule_changes, Kept, DrawsPath, RightlyDrawn, OnPath, RightlyPlaced}
 
 -- ---- the time shown of n/m
 module _ (p : WholePiece) (h : 0 < p.from.m) where

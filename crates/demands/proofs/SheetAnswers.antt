@@ -1,9 +1,8 @@
 -- The demands of an answered sheet, from the sheet's theorems: its refusals, its bytes, and each of its records in its place. Assumes nothing.
-use mathlib.Core.Path.{◌≡◌, refl, sym, ap, subst, ◌∙◌}
-use mathlib.Core.Bool.{Bool, true, false, cond}
-use mathlib.Core.List.{List, [], ◌∷◌, ◌++◌}
-use Prim.Native.Nat.{ℕ, zero, suc, ◌<◌, ◌≤◌}
-use native.Mathlib.Omega.{arith}
+use mathlib.Core.Path.{◌≡◌, sym, ap, subst, ◌∙◌}
+use mathlib.Core.Bool.{Bool, false}
+use mathlib.Core.List.{List, ◌∷◌, ◌++◌}
+use Prim.Native.Nat.{ℕ, ◌<◌}
 use borrow.Author.Tests.{le-leb, lt-leb}
 use lib.Dec.{T}
 use lib.Ieee.Bits.{is_true}
@@ -11,7 +10,6 @@ use lib.IntN.{ℤ}
 use lib.ListN.{length}
 use Rattle.advisory.specs.Catalogue.{CodeWithin}
 use Rattle.question.specs.declared.Encounter.{Encounter}
-use Rattle.question.specs.declared.Settings.{Settings}
 use Rattle.question.specs.declared.Question.{Question}
 use Rattle.question.specs.declared.Checked.{Checked}
 use Rattle.limits.specs.Limits.{no_limit}
@@ -21,11 +19,10 @@ use Rattle.coded.specs.Coded.{coded_question}
 use Rattle.coded.proofs.EarlierCodes.{issued}
 use Rattle.integers.proofs.Branches.{picks_yes, picks_no}
 use Rattle.judge.specs.declared.Answer.{Answer}
-use Rattle.judge.specs.Answers.{answer, answerRecord}
+use Rattle.judge.specs.Answers.{answer, answer_record}
 use Rattle.record.specs.declared.Record.{Record}
-use Rattle.record.specs.Kinds.{known, kind_of, body_length}
 use Rattle.record.specs.Records.{records}
-use Rattle.record.specs.SheetCheck.{longest_sheet, fault_after, sheet_check}
+use Rattle.record.specs.SheetCheck.{longest_sheet, sheet_check}
 use Rattle.reply.specs.declared.Reply.{Reply}
 use Rattle.reply.specs.declared.Reply.TheVariants.{Answered}
 use Rattle.reply.specs.AnswerBytes.{reply_bytes}
@@ -39,7 +36,6 @@ use Rattle.answering.proofs.StoredWithinLimits.{stored_within}
 use Rattle.answering.proofs.RefusalOrder.{free_order, coded_order}
 use Rattle.region.proofs.VerdictRegion.{sixteen_codes}
 use Rattle.sheet.specs.declared.Outcome.{Outcome}
-use Rattle.sheet.specs.declared.Outcome.TheVariants.{Accepted, Refused}
 use Rattle.sheet.specs.WholeSheet.{answers_from, sheet_answer, outcome, area_for, area_after, outcome_record}
 use Rattle.sheet.proofs.RecordsInOrder.{each_record}
 use Rattle.sheet.proofs.WholeSheetRefusals.{refused_in_any_area, too_short, long_enough, refused_unchanged}
@@ -47,7 +43,7 @@ use Rattle.sheet.proofs.OutcomeRecords.{outcome_determines}
 use Rattle.demands.specs.Demand2.{CodeDemand2}
 use Rattle.demands.specs.Maintain.{NeverIssued}
 use Rattle.demands.specs.PlainAnswer.{RightlyAnswered}
-use Rattle.demands.specs.Sheets.{state_there, AnsweredBy, FreeAnswered, CodedAnswered, RecordAnswered, EachRecord, SheetAnswered}
+use Rattle.demands.specs.Sheets.{AnsweredBy, FreeAnswered, CodedAnswered, EachRecord, SheetAnswered}
 use Rattle.demands.proofs.PlainAnswers.{answer_right}
 use Rattle.demands.proofs.MaintainAnswers.{maintain_answered}
 
@@ -122,7 +118,7 @@ module _ (sheet : List ℕ) (earlier : List Record) (given : Record) (later : Li
           line = clear.line;
           in_table_1 = clear.in_table_1;
           figure_5 = clear.clear.by_result (Coded st.encounter)
-              (ap answerRecord (asked_is st.encounter x clear.question e (ap (coded_question code x.speed) no-limit ∙ clear.asked)));
+              (ap answer_record (asked_is st.encounter x clear.question e (ap (coded_question code x.speed) no-limit ∙ clear.asked)));
         }
 
   coded_answered : (code : ℕ) (limit : ℤ) → code < 256 → given ≡ Record.Coded code limit → (r : Answer) × CodedAnswered (sheet_answer sheet) earlier given later code limit r

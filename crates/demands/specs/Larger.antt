@@ -1,5 +1,5 @@
 -- "Larger of zero and a difference" (document 02): what it asks of the line of arithmetic.
-use Rattle.std.specs.Prelude.{◌≡◌, ◌⊎◌, ℕ, ℤ, pos, neg_ℤ, ◌-ℤ◌, ◌≤ℤ◌}
+use Rattle.std.specs.Prelude.{◌≡◌, ◌⊎◌, ℤ, pos, neg_ℤ, ◌≤ℤ◌}
 
 -- "any two numbers from −200,000 to 200,000": one of them
 abbrev pub InRange : ℤ → Type 0

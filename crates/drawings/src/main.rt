@@ -4,13 +4,14 @@
 // implementation's. The program is proved safe. That it sees a difference is shown by the file `planted`, whose numbers are wrong.
 #![tactic(auto)]
 
-ghost use Rattle.std.specs.Prelude.{◌+◌, ◌≤◌, length};
-ghost use Rattle.io.specs.Counts.{IsPrefixLen};
+ghost use Rattle.std.specs.Prelude.{◌≡◌, ◌+◌, ◌≤◌, length, take};
 
 use binding::{DrawingResult, PieceResult, PointResult, screen_drawing, screen_point};
+use reading::{argument, argument_count, name_room, open_named, read_full};
 use record::word_at;
-
-const STANDARD_OUTPUT: i32 = 1;
+use std::io;
+use std::io::Read;
+use std::rt::{Env, Files};
 
 const LINE_END: u8 = 10;
 
@@ -59,7 +60,7 @@ fn number_at(bytes: &[u8], at: usize) -> i64
 // Whether a float has the bit pattern: 0 and −0 differ.
 fn has_pattern(x: f64, bits: u64) -> bool {
     if x == x {
-        return f64::to_bits(x) == bits;
+        return x.to_bits() == bits;
     }
     false
 }
@@ -153,7 +154,7 @@ fn same_point(found: PointResult, case: &[u8], at: usize) -> bool
 // One more if it is so. A file has far fewer cases than would make a count start again.
 fn more_if(n: u64, so: bool) -> u64 {
     if so {
-        return std::num::wrapping_add_u64(n, 1);
+        return n.wrapping_add(1);
     }
     n
 }
@@ -232,30 +233,29 @@ fn report_on(bytes: &[u8]) -> Report {
     report
 }
 
-fn write(text: &[u8]) {
-    io::write_all(STANDARD_OUTPUT, text);
+fn write(out: &impl Print, text: &str) -> io::Result<()> {
+    out.print(text)
 }
 
-fn write_number(text: &[u8], n: u64) {
-    write(text);
-    io::print_decimal(STANDARD_OUTPUT, n);
+fn write_number(out: &impl Print, text: &str, n: u64) -> io::Result<()> {
+    print!(out; "{text}{n}")
 }
 
-fn write_report(report: Report) {
-    write_number(b"  drawings ", report.cases);
-    write_number(b", different ", report.other_drawings);
-    write_number(b"; of one piece ", report.one);
-    write_number(b", two ", report.two);
-    write_number(b", three ", report.three);
-    write_number(b", refused ", report.refused);
-    write_number(b"; seconds different ", report.other_points);
-    write_number(b", drawn ", report.points_drawn);
-    write_number(b", refused ", report.points_refused);
+fn write_report(out: &impl Print, report: Report) -> io::Result<()> {
+    write_number(out, "  drawings ", report.cases)?;
+    write_number(out, ", different ", report.other_drawings)?;
+    write_number(out, "; of one piece ", report.one)?;
+    write_number(out, ", two ", report.two)?;
+    write_number(out, ", three ", report.three)?;
+    write_number(out, ", refused ", report.refused)?;
+    write_number(out, "; seconds different ", report.other_points)?;
+    write_number(out, ", drawn ", report.points_drawn)?;
+    write_number(out, ", refused ", report.points_refused)
 }
 
 // The first line's length, with its end.
 fn first_line(bytes: &[u8]) -> usize
-    ensures { IsPrefixLen result bytes.now }
+    ensures { (result ≤ length bytes.now) × (result ≡ length (take result bytes.now)) }
 {
     let mut i: usize = 0;
     while i < bytes.len() {
@@ -268,40 +268,40 @@ fn first_line(bytes: &[u8]) -> usize
 }
 
 // Bytes that are left over are of a case that was cut, or of a file longer than the room.
-fn report_bytes(bytes: &[u8]) {
+fn report_bytes(out: &impl Print, bytes: &[u8]) -> io::Result<()> {
     let start = first_line(bytes);
-    write(&bytes[..start]);
+    out.write_all(&bytes[..start])?;
     let cases = &bytes[start..];
-    write_report(report_on(cases));
-    write_number(b"; bytes left over ", (cases.len() % CASE) as u64);
-    write(b"\n");
+    write_report(out, report_on(cases))?;
+    write_number(out, "; bytes left over ", (cases.len() % CASE) as u64)?;
+    write(out, "\n")
 }
 
-fn report_file(file: i32) {
+fn report_file<P: Print, R: Read>(out: &P, file: &mut R) -> io::Result<()> {
     let mut room = [0u8; ROOM];
-    let length = io::read_full(file, &mut room);
-    report_bytes(&room[..length]);
+    let length = read_full(file, &mut room)?;
+    report_bytes(out, &room[..length])
 }
 
-fn report_argument(k: usize) {
-    let mut name = io::buffer();
-    let length = os::arg(k, &mut name);
-    write(&name[..length]);
-    let file = os::open_read(&name[..length]);
-    if file < 0 {
-        write(b": cannot be read\n");
-        return;
+fn report_argument<R: Print + Files + Env>(rt: &R, k: usize) -> io::Result<()> {
+    let mut name = name_room();
+    let length = argument(rt, k, &mut name);
+    rt.write_all(&name[..length])?;
+    match open_named(rt, &name[..length]) {
+        Ok(mut file) => {
+            write(rt, ": ")?;
+            report_file(rt, &mut file)
+        }
+        Err(_) => write(rt, ": cannot be read\n"),
     }
-    write(b": ");
-    report_file(file);
-    libc::close(file);
 }
 
-fn main() {
-    let count = os::arg_count();
+fn main(rt: HostRuntime) -> io::Result<()> {
+    let count = argument_count(&rt);
     let mut k: usize = 1;
     while k < count {
-        report_argument(k);
+        report_argument(&rt, k)?;
         k = k + 1;
     }
+    Ok(())
 }

@@ -5,14 +5,15 @@
 #![tactic(auto)]
 
 ghost use Rattle.std.specs.Prelude.{◌≡◌, ◌+◌, ◌≤◌, length, take};
-ghost use Rattle.io.specs.Counts.{IsPrefixLen};
 
 use candidate::{FlightAnswer, OneSidedAdvice, judge_flight};
 use flight::PuckEntry;
 use question::{Encounter, Settings};
+use reading::{argument, argument_count, name_room, open_named, read_full};
 use record::word_at;
-
-const STANDARD_OUTPUT: i32 = 1;
+use std::io;
+use std::io::Read;
+use std::rt::{Env, Files};
 
 const LINE_END: u8 = 10;
 
@@ -216,7 +217,7 @@ fn same_answer(found: Numbers, case: &[u8]) -> bool
 // One more if it is so. A file has far fewer cases than would make a count start again.
 fn more_if(n: u64, so: bool) -> u64 {
     if so {
-        return std::num::wrapping_add_u64(n, 1);
+        return n.wrapping_add(1);
     }
     n
 }
@@ -277,30 +278,29 @@ fn report_on(bytes: &[u8]) -> Report {
     with_left_over(report, bytes.len() - at)
 }
 
-fn write(text: &[u8]) {
-    io::write_all(STANDARD_OUTPUT, text);
+fn write(out: &impl Print, text: &str) -> io::Result<()> {
+    out.print(text)
 }
 
-fn write_number(text: &[u8], n: u64) {
-    write(text);
-    io::print_decimal(STANDARD_OUTPUT, n);
+fn write_number(out: &impl Print, text: &str, n: u64) -> io::Result<()> {
+    print!(out; "{text}{n}")
 }
 
-fn write_report(report: Report) {
-    write_number(b"  flights ", report.flights);
-    write_number(b", different ", report.different);
-    write_number(b"; obeying ", report.obeying);
-    write_number(b", not ", report.not_obeying);
-    write_number(b"; inside ", report.inside);
-    write_number(b", never ", report.never);
-    write_number(b"; refused ", report.refused);
-    write_number(b"; bytes left over ", report.left_over);
-    write(b"\n");
+fn write_report(out: &impl Print, report: Report) -> io::Result<()> {
+    write_number(out, "  flights ", report.flights)?;
+    write_number(out, ", different ", report.different)?;
+    write_number(out, "; obeying ", report.obeying)?;
+    write_number(out, ", not ", report.not_obeying)?;
+    write_number(out, "; inside ", report.inside)?;
+    write_number(out, ", never ", report.never)?;
+    write_number(out, "; refused ", report.refused)?;
+    write_number(out, "; bytes left over ", report.left_over)?;
+    write(out, "\n")
 }
 
 // The first line's length, with its end.
 fn first_line(bytes: &[u8]) -> usize
-    ensures { IsPrefixLen result bytes.now }
+    ensures { (result ≤ length bytes.now) × (result ≡ length (take result bytes.now)) }
 {
     let mut i: usize = 0;
     while i < bytes.len() {
@@ -312,37 +312,37 @@ fn first_line(bytes: &[u8]) -> usize
     i
 }
 
-fn report_bytes(bytes: &[u8]) {
+fn report_bytes(out: &impl Print, bytes: &[u8]) -> io::Result<()> {
     let start = first_line(bytes);
-    write(&bytes[..start]);
-    write_report(report_on(&bytes[start..]));
+    out.write_all(&bytes[..start])?;
+    write_report(out, report_on(&bytes[start..]))
 }
 
-fn report_file(file: i32) {
+fn report_file<P: Print, R: Read>(out: &P, file: &mut R) -> io::Result<()> {
     let mut room = [0u8; ROOM];
-    let length = io::read_full(file, &mut room);
-    report_bytes(&room[..length]);
+    let length = read_full(file, &mut room)?;
+    report_bytes(out, &room[..length])
 }
 
-fn report_argument(k: usize) {
-    let mut name = io::buffer();
-    let length = os::arg(k, &mut name);
-    write(&name[..length]);
-    let file = os::open_read(&name[..length]);
-    if file < 0 {
-        write(b": cannot be read\n");
-        return;
+fn report_argument<R: Print + Files + Env>(rt: &R, k: usize) -> io::Result<()> {
+    let mut name = name_room();
+    let length = argument(rt, k, &mut name);
+    rt.write_all(&name[..length])?;
+    match open_named(rt, &name[..length]) {
+        Ok(mut file) => {
+            write(rt, ": ")?;
+            report_file(rt, &mut file)
+        }
+        Err(_) => write(rt, ": cannot be read\n"),
     }
-    write(b": ");
-    report_file(file);
-    libc::close(file);
 }
 
-fn main() {
-    let count = os::arg_count();
+fn main(rt: HostRuntime) -> io::Result<()> {
+    let count = argument_count(&rt);
     let mut k: usize = 1;
     while k < count {
-        report_argument(k);
+        report_argument(&rt, k)?;
         k = k + 1;
     }
+    Ok(())
 }

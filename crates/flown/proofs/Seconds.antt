@@ -13,7 +13,7 @@ use Rattle.path.specs.Letters.{c, p, u}
 use Rattle.path.specs.Window.{distance_at}
 use Rattle.path.specs.inner.Sizes.{Sizes, max_speed_difference}
 use Rattle.flight.specs.declared.Stretch.{Stretch}
-use Rattle.flight.specs.Flight.{duration, acceleration_at, speed_at, height_at}
+use Rattle.flight.specs.Flight.{duration, acceleration_at, speed_at}
 use Rattle.flight.specs.inner.Parts.{near_part, band_from, band_to}
 use Rattle.flight.specs.inner.Tests.{second_obeys, crosses, inside_at, inside_second}
 use Rattle.flight.proofs.Walk.{next_speed, next_height, obeys_here, last_test}

@@ -8,7 +8,7 @@ use Prim.Native.Nat.{ℕ, ◌≤◌, ◌<◌}
 use native.Mathlib.Omega.{arith}
 use lib.Dec.{T, leb, leb→le}
 use lib.Ieee.Fits.{and_l, and_r}
-use lib.IntN.{ℤ, pos, nat_abs}
+use lib.IntN.{ℤ, nat_abs}
 use lib.ListN.{length, get_or}
 use mir.Syntax.{w64}
 use mir.Val.{to_z, of_z}
@@ -28,7 +28,6 @@ use Rattle.flight.proofs.PlainNumbers.{sensed_size, sensed_duration}
 use Rattle.flight.proofs.FlightSizes.{Accelerates, sensed_accelerates, one_stretch, each_within, flown_within, within_accelerates}
 use Rattle.stretches.specs.inner.NoStretch.{no_stretch}
 use Rattle.stretches.proofs.Pairs.{past_the_last}
-use Rattle.second.specs.declared.Motion.{Motion}
 use Rattle.second.specs.inner.SecondSizes.{MotionSizes}
 use Rattle.flown.specs.declared.Place.{Place}
 use Rattle.flown.specs.inner.Places.{PlaceAt}

@@ -2,16 +2,15 @@
 #![tactic(auto)]
 
 use program::{program_output, read_room};
+use reading::read_full;
+use std::io;
 
-const STANDARD_INPUT: i32 = 0;
-
-const STANDARD_OUTPUT: i32 = 1;
-
-fn main() {
+fn main(rt: HostRuntime) -> io::Result<()> {
     let mut sheet = read_room();
-    let read = io::read_full(STANDARD_INPUT, &mut sheet);
+    let mut input = rt.stdin();
+    let read = read_full(&mut input, &mut sheet)?;
     let output = program_output(&sheet[..read]);
     let area = output.area;
     let length = output.length;
-    io::write_all(STANDARD_OUTPUT, &area[..length]);
+    rt.write_all(&area[..length])
 }

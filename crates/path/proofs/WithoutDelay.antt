@@ -5,7 +5,7 @@ use mathlib.Core.Bool.{Bool, ◌&&◌}
 use mathlib.Core.List.{[], ◌∷◌}
 use Prim.Native.Nat.{ℕ, ◌*◌, ◌-◌}
 use native.Mathlib.Omega.{arith}
-use lib.IntN.{ℤ, pos, ◌+ℤ◌, ◌*ℤ◌}
+use lib.IntN.{ℤ, pos}
 use lib.Signed.{le_z}
 use Rattle.integers.specs.Extremes.{maxℤ}
 use Rattle.integers.proofs.Quotation.{quote}

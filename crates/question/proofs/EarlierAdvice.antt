@@ -13,7 +13,7 @@ use Rattle.question.specs.declared.Settings.{Settings}
 use Rattle.question.specs.declared.Question.{Question}
 use Rattle.question.specs.declared.Checked.{Checked}
 use Rattle.question.specs.declared.Checked.TheVariants.{Accepted, Refused}
-use Rattle.question.specs.Refusals.{two_sided, encounter_within, puck_within, delay_acceleration_within, sides_known, targets_within, strengths_ordered, strengths_within, targets_ordered, upper_target_in_sense, upper_zero, upper_unused, times_within, Check, check, first_refusal, plain_checks, refusal}
+use Rattle.question.specs.Refusals.{two_sided, encounter_within, puck_within, delay_acceleration_within, sides_known, targets_within, strengths_ordered, strengths_within, targets_ordered, upper_target_in_sense, upper_zero, upper_unused, times_within, Check, check, first_refusal, refusal}
 
 -- ---- the earlier rule
 -- "5 target or strength outside limits; two-sided, also an upper field outside limits, b < a, or w × upper target below w × target; one-sided, also

@@ -1,7 +1,7 @@
 -- What became of refusal 6: before document 02 let two-sided questions have a delay, it was also "a delay when two-sided". Without a delay, and one-sided, the
 -- first refusal is the earlier one. Assumes nothing.
 use mathlib.Core.Path.{◌≡◌, refl, sym, ap, ◌∙◌}
-use mathlib.Core.Bool.{Bool, true, false, cond, not, ◌&&◌, ◌||◌, and-true}
+use mathlib.Core.Bool.{Bool, true, false, not, ◌&&◌, ◌||◌, and-true}
 use mathlib.Core.List.{List, [], ◌∷◌}
 use lib.Dec.{T}
 use lib.Ieee.Fits.{and_i}
@@ -11,7 +11,7 @@ use Rattle.question.specs.declared.Encounter.{Encounter}
 use Rattle.question.specs.declared.Settings.{Settings}
 use Rattle.question.specs.declared.Question.{Question}
 use Rattle.question.specs.declared.Checked.{Checked}
-use Rattle.question.specs.Refusals.{is_number, two_sided, encounter_within, puck_within, delay_acceleration_within, sides_known, targets_within, strengths_within, upper_target_in_sense, upper_unused, limit_allowed, times_within, Check, check, first_refusal, plain_checks, refusal}
+use Rattle.question.specs.Refusals.{is_number, two_sided, encounter_within, puck_within, delay_acceleration_within, sides_known, targets_within, strengths_within, upper_target_in_sense, upper_unused, limit_allowed, times_within, Check, check, first_refusal, refusal}
 
 -- ---- the earlier rule: "6 delay or limit outside limits, or a delay when two-sided"
 abbrev pub no_delay : Question → Bool

@@ -62,6 +62,7 @@ fn signed(n: u64) -> i64
     n as i64 - 4294967296
 }
 
+#[tactic(auto, unfolding(crate::specs::Numbers::number_at))]
 fn number_at(bytes: &[u8], at: usize) -> i64
     requires { at + 4 ≤ length bytes.now }
     ensures { result ≡ number_at bytes.now at }
@@ -125,6 +126,7 @@ fn is_known(kind: Kind) -> bool
     }
 }
 
+#[tactic(auto, unfolding(crate::specs::Records::encounter_in))]
 fn encounter_in(body: &[u8]) -> Encounter
     requires { 20 ≤ length body.now }
     ensures { result ≡ encounter_in body.now }
@@ -138,6 +140,7 @@ fn encounter_in(body: &[u8]) -> Encounter
     }
 }
 
+#[tactic(auto, unfolding(crate::specs::Records::question_in))]
 fn question_in(body: &[u8]) -> Question
     requires { 22 ≤ length body.now }
     ensures { result ≡ question_in body.now }

@@ -147,6 +147,7 @@ fn check_fields(question: Question) -> Checked
 }
 
 // The refusals of plain numbers: 1, 2, 3, then the question's own.
+#[tactic(auto, unfolding(question::specs::Refusals::refusal))]
 pub fn check_question(encounter: Encounter, settings: Settings, question: Question) -> Checked
     ensures { result ≡ refusal encounter settings question }
 {

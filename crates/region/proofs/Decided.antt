@@ -6,7 +6,7 @@ use lib.Dec.{T}
 use lib.Ieee.Fits.{and_i, and_l, and_r}
 use lib.Signed.{le_z, le_z_yes, lt_z_yes}
 use Rattle.integers.proofs.Laws.{≤ℤ_antisym, ≤ℤ-of-≡}
-use Rattle.region.specs.Formula.{Formula, ◌at_most◌, ◌less-than◌, ◌equals◌, ◌and◌, ◌or◌, ◌implies◌, Says}
+use Rattle.region.specs.Formula.{Formula, ◌at_most◌, ◌less_than◌, ◌equals◌, ◌and◌, ◌or◌, ◌implies◌, Says}
 use Rattle.region.specs.inner.Holds.{holds}
 
 or_test : (a b : Bool) → T (a || b) ↔ (T a ⊎ T b)
@@ -19,7 +19,7 @@ implies_test false b = (λ t x. absurd x, λ h. tt)
 
 pub decides : (f : Formula) → T (holds f) ↔ Says f
 decides (x at_most y) = (λ t. le_z_yes t, λ h. h.le)
-decides (x less-than y) = (λ t. lt_z_yes t, λ h. h.lt)
+decides (x less_than y) = (λ t. lt_z_yes t, λ h. h.lt)
 decides (x equals y) = (
   λ t. ≤ℤ_antisym (le_z_yes (and_l (le_z x y) (le_z y x) t)) (le_z_yes (and_r (le_z x y) (le_z y x) t)),
   λ e. and_i (le_z x y) (le_z y x) (≤ℤ-of-≡ e).le (≤ℤ-of-≡ (sym e)).le,

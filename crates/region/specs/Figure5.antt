@@ -3,7 +3,7 @@
 -- printed, though no delay here is negative. Over each definition stands the printed formula, and what it is multiplied by.
 use Rattle.std.specs.Prelude.{ℤ, pos, neg_ℤ, ◌+ℤ◌, ◌-ℤ◌, ◌*ℤ◌}
 use Rattle.integers.specs.Extremes.{maxℤ}
-use Rattle.region.specs.Formula.{Formula, ◌at_most◌, ◌less-than◌, ◌and◌, ◌implies◌, ◌²}
+use Rattle.region.specs.Formula.{Formula, ◌at_most◌, ◌less_than◌, ◌and◌, ◌implies◌, ◌²}
 use Rattle.region.specs.Figure3.{L_expl⁻¹}
 
 module _ (c p k a e d : ℤ) (r 2wh u q : ℤ) where
@@ -25,23 +25,23 @@ module _ (c p k a e d : ℤ) (r 2wh u q : ℤ) where
 
   -- w h < −h_p; times 2
   abbrev pub bound₇ : Formula
-  bound₇ = 2wh less-than neg_ℤ (pos 2 *ℤ k)
+  bound₇ = 2wh less_than neg_ℤ (pos 2 *ℤ k)
 
   -- r_p < r ≤ r^d + r_p
   abbrev pub case₈ : Formula
-  case₈ = p less-than r and r at_most rᵈ +ℤ p
+  case₈ = p less_than r and r at_most rᵈ +ℤ p
 
   -- −r_p ≤ r < r^d − r_p
   abbrev pub case₉ : Formula
-  case₉ = neg_ℤ p at_most r and r less-than rᵈ -ℤ p
+  case₉ = neg_ℤ p at_most r and r less_than rᵈ -ℤ p
 
   -- w r_v² h < −a^d/2 (r − r_p)² + w r_v v (r − r_p) − r_v² h_p; times 2
   abbrev pub bound₈ : Formula
-  bound₈ = c ² *ℤ 2wh less-than neg_ℤ (e *ℤ (r -ℤ p) ²) +ℤ pos 2 *ℤ c *ℤ u *ℤ (r -ℤ p) -ℤ pos 2 *ℤ c ² *ℤ k
+  bound₈ = c ² *ℤ 2wh less_than neg_ℤ (e *ℤ (r -ℤ p) ²) +ℤ pos 2 *ℤ c *ℤ u *ℤ (r -ℤ p) -ℤ pos 2 *ℤ c ² *ℤ k
 
   -- w r_v² h < −a^d/2 (r + r_p)² + w r_v v (r + r_p) − r_v² h_p; times 2
   abbrev pub bound₉ : Formula
-  bound₉ = c ² *ℤ 2wh less-than neg_ℤ (e *ℤ (r +ℤ p) ²) +ℤ pos 2 *ℤ c *ℤ u *ℤ (r +ℤ p) -ℤ pos 2 *ℤ c ² *ℤ k
+  bound₉ = c ² *ℤ 2wh less_than neg_ℤ (e *ℤ (r +ℤ p) ²) +ℤ pos 2 *ℤ c *ℤ u *ℤ (r +ℤ p) -ℤ pos 2 *ℤ c ² *ℤ k
 
   -- D_expl^d: (⋀ i=7..9 (case_i → bound_i)) ∧ L_expl^−1(r − r^d, h − h^d, v^d, w, v_lo). The figure's implicit form passes v where its text,
   -- and this one, have v^d; by document 01 the paths decide, and their speed after the delay is u_d.

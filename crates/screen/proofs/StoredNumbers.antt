@@ -1,4 +1,4 @@
--- A piece's whole numbers in 64-bit words: each is read back as it was stored, its cast to a float is exact, and a word is 0 exactly if the number is. Assumes nothing.
+-- A piece's whole numbers in 64-bit words: each is read back as it was stored, its cast to a float is exact, and a word is 0 exactly if the number is.
 use mathlib.Core.Path.{◌≡◌, refl, sym, ap, subst, ◌∙◌}
 use mathlib.Core.Bool.{Bool, true, false}
 use Prim.Native.Nat.{◌≤◌}

@@ -4,50 +4,53 @@
 #![tactic(auto)]
 
 use program::{program_output, read_room};
+use reading::{argument, argument_count, name_room, open_named, read_full, say_unread};
+use std::io;
+use std::io::Read;
+use std::rt::{Env, Files};
 
-const STANDARD_OUTPUT: i32 = 1;
-
-fn print_byte(byte: u8) {
-    io::print_hex(STANDARD_OUTPUT, byte as u64, 2);
+fn print_byte(out: &impl Print, byte: u8) -> io::Result<()> {
+    print!(out; "{byte:02x}")
 }
 
-fn print_bytes(bytes: &[u8]) {
+fn print_bytes(out: &impl Print, bytes: &[u8]) -> io::Result<()> {
     let mut i: usize = 0;
     while i < bytes.len() {
-        print_byte(bytes[i]);
+        print_byte(out, bytes[i])?;
         i = i + 1;
     }
+    Ok(())
 }
 
-fn answer_file(file: i32) {
+fn answer_file<P: Print, R: Read>(out: &P, file: &mut R) -> io::Result<()> {
     let mut sheet = read_room();
-    let read = io::read_full(file, &mut sheet);
+    let read = read_full(file, &mut sheet)?;
     let output = program_output(&sheet[..read]);
     let area = output.area;
     let length = output.length;
-    print_bytes(&area[..length]);
+    print_bytes(out, &area[..length])
 }
 
-fn answer_argument(k: usize) {
-    let mut name = io::buffer();
-    let length = os::arg(k, &mut name);
-    let file = os::open_read(&name[..length]);
-    if file < 0 {
-        os::fail(&name[..length]);
-        return;
+fn answer_argument<R: Print + Eprint + Files + Env>(rt: &R, k: usize) -> io::Result<()> {
+    let mut name = name_room();
+    let length = argument(rt, k, &mut name);
+    match open_named(rt, &name[..length]) {
+        Ok(mut file) => {
+            rt.write_all(&name[..length])?;
+            print!(rt; " ")?;
+            answer_file(rt, &mut file)?;
+            println!(rt; "")
+        }
+        Err(error) => say_unread(rt, &name[..length], error),
     }
-    io::write_all(STANDARD_OUTPUT, &name[..length]);
-    io::write_all(STANDARD_OUTPUT, b" ");
-    answer_file(file);
-    io::write_all(STANDARD_OUTPUT, b"\n");
-    libc::close(file);
 }
 
-fn main() {
-    let count = os::arg_count();
+fn main(rt: HostRuntime) -> io::Result<()> {
+    let count = argument_count(&rt);
     let mut k: usize = 1;
     while k < count {
-        answer_argument(k);
+        answer_argument(&rt, k)?;
         k = k + 1;
     }
+    Ok(())
 }

@@ -4,16 +4,17 @@
 // The program is proved safe. That it sees a difference is shown by the file `planted`, whose answers are wrong.
 #![tactic(auto)]
 
-ghost use Rattle.std.specs.Prelude.{◌+◌, ◌≤◌, length};
-ghost use Rattle.io.specs.Counts.{IsPrefixLen};
+ghost use Rattle.std.specs.Prelude.{◌≡◌, ◌+◌, ◌≤◌, length, take};
 
 use coded::{CodedQuestion, coded_question};
 use judge::{Answer, judge, sides_number};
 use question::{Encounter, Question, Settings};
+use reading::{argument, argument_count, name_room, open_named, read_full};
 use record::word_at;
+use std::io;
+use std::io::Read;
+use std::rt::{Env, Files};
 use verdict::Verdict;
-
-const STANDARD_OUTPUT: i32 = 1;
 
 const LINE_END: u8 = 10;
 
@@ -195,7 +196,7 @@ fn differ(a: Numbers, b: Numbers) -> bool {
 // One more if it is so. A file has far fewer cases than would make a count start again.
 fn more_if(n: u64, so: bool) -> u64 {
     if so {
-        return std::num::wrapping_add_u64(n, 1);
+        return n.wrapping_add(1);
     }
     n
 }
@@ -239,28 +240,27 @@ fn report_on(bytes: &[u8]) -> Report {
     report
 }
 
-fn write(text: &[u8]) {
-    io::write_all(STANDARD_OUTPUT, text);
+fn write(out: &impl Print, text: &str) -> io::Result<()> {
+    out.print(text)
 }
 
-fn write_number(text: &[u8], n: u64) {
-    write(text);
-    io::print_decimal(STANDARD_OUTPUT, n);
+fn write_number(out: &impl Print, text: &str, n: u64) -> io::Result<()> {
+    print!(out; "{text}{n}")
 }
 
-fn write_report(report: Report) {
-    write_number(b"  cases ", report.cases);
-    write_number(b", differences ", report.differences);
-    write_number(b" after ", report.agreeing);
-    write_number(b" that agree; kind 65 ", report.clear);
-    write_number(b", 66 ", report.conflict);
-    write_number(b", 67 ", report.conflicts);
-    write_number(b", 68 ", report.refused);
+fn write_report(out: &impl Print, report: Report) -> io::Result<()> {
+    write_number(out, "  cases ", report.cases)?;
+    write_number(out, ", differences ", report.differences)?;
+    write_number(out, " after ", report.agreeing)?;
+    write_number(out, " that agree; kind 65 ", report.clear)?;
+    write_number(out, ", 66 ", report.conflict)?;
+    write_number(out, ", 67 ", report.conflicts)?;
+    write_number(out, ", 68 ", report.refused)
 }
 
 // The first line's length, with its end.
 fn first_line(bytes: &[u8]) -> usize
-    ensures { IsPrefixLen result bytes.now }
+    ensures { (result ≤ length bytes.now) × (result ≡ length (take result bytes.now)) }
 {
     let mut i: usize = 0;
     while i < bytes.len() {
@@ -273,40 +273,40 @@ fn first_line(bytes: &[u8]) -> usize
 }
 
 // Bytes that are left over are of a case that was cut, or of a file longer than the room.
-fn report_bytes(bytes: &[u8]) {
+fn report_bytes(out: &impl Print, bytes: &[u8]) -> io::Result<()> {
     let start = first_line(bytes);
-    write(&bytes[..start]);
+    out.write_all(&bytes[..start])?;
     let cases = &bytes[start..];
-    write_report(report_on(cases));
-    write_number(b"; bytes left over ", (cases.len() % CASE) as u64);
-    write(b"\n");
+    write_report(out, report_on(cases))?;
+    write_number(out, "; bytes left over ", (cases.len() % CASE) as u64)?;
+    write(out, "\n")
 }
 
-fn report_file(file: i32) {
+fn report_file<P: Print, R: Read>(out: &P, file: &mut R) -> io::Result<()> {
     let mut room = [0u8; ROOM];
-    let length = io::read_full(file, &mut room);
-    report_bytes(&room[..length]);
+    let length = read_full(file, &mut room)?;
+    report_bytes(out, &room[..length])
 }
 
-fn report_argument(k: usize) {
-    let mut name = io::buffer();
-    let length = os::arg(k, &mut name);
-    write(&name[..length]);
-    let file = os::open_read(&name[..length]);
-    if file < 0 {
-        write(b": cannot be read\n");
-        return;
+fn report_argument<R: Print + Files + Env>(rt: &R, k: usize) -> io::Result<()> {
+    let mut name = name_room();
+    let length = argument(rt, k, &mut name);
+    rt.write_all(&name[..length])?;
+    match open_named(rt, &name[..length]) {
+        Ok(mut file) => {
+            write(rt, ": ")?;
+            report_file(rt, &mut file)
+        }
+        Err(_) => write(rt, ": cannot be read\n"),
     }
-    write(b": ");
-    report_file(file);
-    libc::close(file);
 }
 
-fn main() {
-    let count = os::arg_count();
+fn main(rt: HostRuntime) -> io::Result<()> {
+    let count = argument_count(&rt);
     let mut k: usize = 1;
     while k < count {
-        report_argument(k);
+        report_argument(&rt, k)?;
         k = k + 1;
     }
+    Ok(())
 }

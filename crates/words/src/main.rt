@@ -11,13 +11,13 @@ use instant::Time;
 use judge::Answer;
 use limits::NO_LIMIT;
 use question::{Checked, Encounter, Question};
+use reading::{argument, argument_count, name_room, open_named, read_full, say_unread};
 use record::{Record, check_sheet, next_at, record_at};
 use reply::Reply;
+use std::io;
+use std::io::Read;
+use std::rt::{Env, Files};
 use verdict::{ClearSides, Verdict};
-
-const STANDARD_INPUT: i32 = 0;
-
-const STANDARD_OUTPUT: i32 = 1;
 
 // One byte more than the longest sheet, so that a longer one is seen.
 const SHEET_ROOM: usize = 8193;
@@ -45,13 +45,12 @@ struct Place {
     byte: usize,
 }
 
-fn write(text: &[u8]) {
-    io::write_all(STANDARD_OUTPUT, text);
+fn write(out: &impl Print, text: &str) -> io::Result<()> {
+    out.print(text)
 }
 
-fn write_number(text: &[u8], n: u64) {
-    write(text);
-    io::print_decimal(STANDARD_OUTPUT, n);
+fn write_number(out: &impl Print, text: &str, n: u64) -> io::Result<()> {
+    print!(out; "{text}{n}")
 }
 
 // |n|, which for the least number is one more than the largest.
@@ -64,250 +63,265 @@ fn magnitude(n: i64) -> u64
     n as u64
 }
 
-fn write_signed(text: &[u8], n: i64) {
-    write(text);
+fn write_signed(out: &impl Print, text: &str, n: i64) -> io::Result<()> {
+    write(out, text)?;
     if n < 0 {
-        write(b"-");
+        write(out, "-")?;
     }
-    io::print_decimal(STANDARD_OUTPUT, magnitude(n));
+    out.print(magnitude(n))
 }
 
 // "24 3/8 s", or "27 s" where the remainder is 0.
-fn write_time(text: &[u8], time: Time) {
-    write_number(text, time.seconds);
+fn write_time(out: &impl Print, text: &str, time: Time) -> io::Result<()> {
+    write_number(out, text, time.seconds)?;
     if 0 < time.remainder {
-        write_number(b" ", time.remainder);
-        write_number(b"/", time.divisor);
+        write_number(out, " ", time.remainder)?;
+        write_number(out, "/", time.divisor)?;
     }
-    write(b" s");
+    write(out, " s")
 }
 
 // What the refusal of a record means.
-fn write_record_refusal(number: u8) {
+fn write_record_refusal(out: &impl Print, number: u8) -> io::Result<()> {
     match number {
-        1 => write(b"an encounter field is outside its limits"),
-        2 => write(b"the puck's radius or half height is outside its limits"),
-        3 => write(b"the delay acceleration is outside its limits"),
-        4 => write(b"the sides are not 1 or 2, or the sense is not 0 or 1"),
-        5 => write(b"the target or, two-sided, the upper target is outside its limits"),
-        6 => write(b"the delay or the limit is outside its limits"),
-        7 => write(b"no encounter was accepted before the question"),
-        8 => write(b"the code is not one of 1 to 18"),
-        9 => write(b"codes 17 and 18 have a name and are not judged"),
-        14 => write(
-            b"a strength is outside its limits, or the upper strength is below the strength",
+        1 => write(out, "an encounter field is outside its limits"),
+        2 => write(
+            out,
+            "the puck's radius or half height is outside its limits",
         ),
-        15 => write(b"the upper target falls short of the target in the sense"),
-        16 => write(b"the question is one-sided and an upper field is not 0"),
-        17 => write(b"code 10 is not issued to an aircraft going down, nor code 9 to one going up"),
-        _ => {}
+        3 => write(out, "the delay acceleration is outside its limits"),
+        4 => write(out, "the sides are not 1 or 2, or the sense is not 0 or 1"),
+        5 => write(
+            out,
+            "the target or, two-sided, the upper target is outside its limits",
+        ),
+        6 => write(out, "the delay or the limit is outside its limits"),
+        7 => write(out, "no encounter was accepted before the question"),
+        8 => write(out, "the code is not one of 1 to 18"),
+        9 => write(out, "codes 17 and 18 have a name and are not judged"),
+        14 => write(
+            out,
+            "a strength is outside its limits, or the upper strength is below the strength",
+        ),
+        15 => write(
+            out,
+            "the upper target falls short of the target in the sense",
+        ),
+        16 => write(out, "the question is one-sided and an upper field is not 0"),
+        17 => write(
+            out,
+            "code 10 is not issued to an aircraft going down, nor code 9 to one going up",
+        ),
+        _ => Ok(()),
     }
 }
 
 // What the refusal of a sheet means.
-fn write_sheet_refusal(number: u8) {
+fn write_sheet_refusal(out: &impl Print, number: u8) -> io::Result<()> {
     match number {
-        10 => write(b"it is longer than 8192 bytes"),
-        11 => write(b"a record has an unknown kind"),
-        12 => write(b"a record is cut short"),
-        13 => write(b"the answer area is shorter than the answer"),
-        _ => {}
+        10 => write(out, "it is longer than 8192 bytes"),
+        11 => write(out, "a record has an unknown kind"),
+        12 => write(out, "a record is cut short"),
+        13 => write(out, "the answer area is shorter than the answer"),
+        _ => Ok(()),
     }
 }
 
-fn write_sides(sides: ClearSides) {
+fn write_sides(out: &impl Print, sides: ClearSides) -> io::Result<()> {
     match sides {
-        ClearSides::Lower => write(b"clear on the lower side"),
-        ClearSides::Upper => write(b"clear on the upper side"),
-        ClearSides::Both => write(b"clear on both sides"),
+        ClearSides::Lower => write(out, "clear on the lower side"),
+        ClearSides::Upper => write(out, "clear on the upper side"),
+        ClearSides::Both => write(out, "clear on both sides"),
     }
 }
 
-fn write_verdict(verdict: Verdict) {
+fn write_verdict(out: &impl Print, verdict: Verdict) -> io::Result<()> {
     match verdict {
-        Verdict::Clear(sides) => write_sides(sides),
-        Verdict::Conflict(time) => write_time(b"conflict at ", time),
+        Verdict::Clear(sides) => write_sides(out, sides),
+        Verdict::Conflict(time) => write_time(out, "conflict at ", time),
         Verdict::Conflicts(lower, upper) => {
-            write_time(b"conflict on both sides: lower at ", lower);
-            write_time(b", upper at ", upper);
+            write_time(out, "conflict on both sides: lower at ", lower)?;
+            write_time(out, ", upper at ", upper)
         }
     }
 }
 
-fn write_answer(answer: Answer) {
+fn write_answer(out: &impl Print, answer: Answer) -> io::Result<()> {
     match answer {
-        Answer::Judged(verdict) => write_verdict(verdict),
+        Answer::Judged(verdict) => write_verdict(out, verdict),
         Answer::Refused(number) => {
-            write_number(b"refused, ", number as u64);
-            write(b": ");
-            write_record_refusal(number);
+            write_number(out, "refused, ", number as u64)?;
+            write(out, ": ")?;
+            write_record_refusal(out, number)
         }
     }
 }
 
-fn write_encounter(encounter: Encounter) {
-    write_signed(b"r ", encounter.distance);
-    write_signed(b", h ", encounter.height);
-    write_signed(b", c ", encounter.closing_speed);
-    write_signed(b", v ", encounter.speed);
-    write_signed(b", vi ", encounter.intruder_speed);
+fn write_encounter(out: &impl Print, encounter: Encounter) -> io::Result<()> {
+    write_signed(out, "r ", encounter.distance)?;
+    write_signed(out, ", h ", encounter.height)?;
+    write_signed(out, ", c ", encounter.closing_speed)?;
+    write_signed(out, ", v ", encounter.speed)?;
+    write_signed(out, ", vi ", encounter.intruder_speed)
 }
 
-fn write_puck(radius: i64, half_height: i64) {
-    write_signed(b"p ", radius);
-    write_signed(b", k ", half_height);
+fn write_puck(out: &impl Print, radius: i64, half_height: i64) -> io::Result<()> {
+    write_signed(out, "p ", radius)?;
+    write_signed(out, ", k ", half_height)
 }
 
-fn write_limit(limit: i64) {
+fn write_limit(out: &impl Print, limit: i64) -> io::Result<()> {
     if limit == NO_LIMIT {
-        write(b", no limit");
-        return;
+        return write(out, ", no limit");
     }
-    write_signed(b", limit ", limit);
-    write(b" s");
+    write_signed(out, ", limit ", limit)?;
+    write(out, " s")
 }
 
-fn write_odd_name(code: u8) {
+fn write_odd_name(out: &impl Print, code: u8) -> io::Result<()> {
     match code {
-        1 => write(b" DNC2000"),
-        3 => write(b" DNC1000"),
-        5 => write(b" DNC500"),
-        7 => write(b" DNC"),
-        9 => write(b" MDES"),
-        11 => write(b" DES1500"),
-        13 => write(b" SDES1500"),
-        15 => write(b" SDES2500"),
-        17 => write(b" COC"),
-        _ => {}
+        1 => write(out, " DNC2000"),
+        3 => write(out, " DNC1000"),
+        5 => write(out, " DNC500"),
+        7 => write(out, " DNC"),
+        9 => write(out, " MDES"),
+        11 => write(out, " DES1500"),
+        13 => write(out, " SDES1500"),
+        15 => write(out, " SDES2500"),
+        17 => write(out, " COC"),
+        _ => Ok(()),
     }
 }
 
-fn write_even_name(code: u8) {
+fn write_even_name(out: &impl Print, code: u8) -> io::Result<()> {
     match code {
-        2 => write(b" DND2000"),
-        4 => write(b" DND1000"),
-        6 => write(b" DND500"),
-        8 => write(b" DND"),
-        10 => write(b" MCL"),
-        12 => write(b" CL1500"),
-        14 => write(b" SCL1500"),
-        16 => write(b" SCL2500"),
-        18 => write(b" MTLO"),
-        _ => {}
+        2 => write(out, " DND2000"),
+        4 => write(out, " DND1000"),
+        6 => write(out, " DND500"),
+        8 => write(out, " DND"),
+        10 => write(out, " MCL"),
+        12 => write(out, " CL1500"),
+        14 => write(out, " SCL1500"),
+        16 => write(out, " SCL2500"),
+        18 => write(out, " MTLO"),
+        _ => Ok(()),
     }
 }
 
 // The catalogue's names; codes outside it have none. Two lists: a match costs the square of its arms to check.
-fn write_code_name(code: u8) {
+fn write_code_name(out: &impl Print, code: u8) -> io::Result<()> {
     if code % 2 == 0 {
-        write_even_name(code);
+        write_even_name(out, code)
     } else {
-        write_odd_name(code);
+        write_odd_name(out, code)
     }
 }
 
-fn write_coded(code: u8, limit: i64) {
-    write_number(b"code ", code as u64);
-    write_code_name(code);
-    write_limit(limit);
+fn write_coded(out: &impl Print, code: u8, limit: i64) -> io::Result<()> {
+    write_number(out, "code ", code as u64)?;
+    write_code_name(out, code)?;
+    write_limit(out, limit)
 }
 
-fn write_question_sides(sides: i64) {
+fn write_question_sides(out: &impl Print, sides: i64) -> io::Result<()> {
     match sides {
-        1 => write(b"one-sided"),
-        2 => write(b"two-sided"),
-        _ => write_signed(b"sides ", sides),
+        1 => write(out, "one-sided"),
+        2 => write(out, "two-sided"),
+        _ => write_signed(out, "sides ", sides),
     }
 }
 
-fn write_sense(sense: i64) {
+fn write_sense(out: &impl Print, sense: i64) -> io::Result<()> {
     match sense {
-        0 => write(b", descend"),
-        1 => write(b", climb"),
-        _ => write_signed(b", sense ", sense),
+        0 => write(out, ", descend"),
+        1 => write(out, ", climb"),
+        _ => write_signed(out, ", sense ", sense),
     }
 }
 
-fn write_free(question: Question) {
-    write_question_sides(question.sides);
-    write_sense(question.sense);
-    write_signed(b", target ", question.target);
-    write_signed(b", upper target ", question.upper_target);
-    write_signed(b", strength ", question.strength);
-    write_signed(b", upper strength ", question.upper_strength);
-    write_signed(b", delay ", question.delay);
-    write(b" s");
-    write_limit(question.limit);
+fn write_free(out: &impl Print, question: Question) -> io::Result<()> {
+    write_question_sides(out, question.sides)?;
+    write_sense(out, question.sense)?;
+    write_signed(out, ", target ", question.target)?;
+    write_signed(out, ", upper target ", question.upper_target)?;
+    write_signed(out, ", strength ", question.strength)?;
+    write_signed(out, ", upper strength ", question.upper_strength)?;
+    write_signed(out, ", delay ", question.delay)?;
+    write(out, " s")?;
+    write_limit(out, question.limit)
 }
 
 // A record as it was read.
-fn write_record(given: Record) {
+fn write_record(out: &impl Print, given: Record) -> io::Result<()> {
     match given {
         Record::Encounter(encounter) => {
-            write(b", encounter: ");
-            write_encounter(encounter);
+            write(out, ", encounter: ")?;
+            write_encounter(out, encounter)
         }
         Record::Puck(radius, half_height) => {
-            write(b", puck: ");
-            write_puck(radius, half_height);
+            write(out, ", puck: ")?;
+            write_puck(out, radius, half_height)
         }
-        Record::DelayAcceleration(e) => write_signed(b", delay acceleration: e ", e),
+        Record::DelayAcceleration(e) => write_signed(out, ", delay acceleration: e ", e),
         Record::Coded(code, limit) => {
-            write(b", coded question: ");
-            write_coded(code, limit);
+            write(out, ", coded question: ")?;
+            write_coded(out, code, limit)
         }
         Record::Free(question) => {
-            write(b", free question: ");
-            write_free(question);
+            write(out, ", free question: ")?;
+            write_free(out, question)
         }
-        Record::Unknown => {}
+        Record::Unknown => Ok(()),
     }
 }
 
-fn write_place(text: &[u8], place: Place) {
-    write_number(text, place.record as u64);
-    write_number(b" at byte ", place.byte as u64);
+fn write_place(out: &impl Print, text: &str, place: Place) -> io::Result<()> {
+    write_number(out, text, place.record as u64)?;
+    write_number(out, " at byte ", place.byte as u64)
 }
 
 // Where the last record of a setting was refused, its number is not 0.
-fn write_warning(setting: &[u8], record: usize, instead: &[u8]) {
+fn write_warning(out: &impl Print, setting: &str, record: usize, instead: &str) -> io::Result<()> {
     if 0 < record {
-        write(b"    warning: ");
-        write(setting);
-        write_number(b" in record ", record as u64);
-        write(b" was refused, ");
-        write(instead);
-        write(b"\n");
+        write(out, "    warning: ")?;
+        write(out, setting)?;
+        write_number(out, " in record ", record as u64)?;
+        write(out, " was refused, ")?;
+        write(out, instead)?;
+        write(out, "\n")?;
     }
+    Ok(())
 }
 
 // What a question was asked of.
-fn write_met(met: Met, refused: usize) {
+fn write_met(out: &impl Print, met: Met, refused: usize) -> io::Result<()> {
     match met {
-        Met::Nothing => write_warning(b"the encounter", refused, b"and there is none before it"),
+        Met::Nothing => write_warning(out, "the encounter", refused, "and there is none before it"),
         Met::Encounter(record, encounter) => {
-            write_number(b"    asked of the encounter in record ", record as u64);
-            write(b": ");
-            write_encounter(encounter);
-            write(b"\n");
-            write_warning(b"the encounter", refused, b"so the one before it holds");
+            write_number(out, "    asked of the encounter in record ", record as u64)?;
+            write(out, ": ")?;
+            write_encounter(out, encounter)?;
+            write(out, "\n")?;
+            write_warning(out, "the encounter", refused, "so the one before it holds")
         }
     }
 }
 
-fn write_asked(notes: Notes) {
+fn write_asked(out: &impl Print, notes: Notes) -> io::Result<()> {
     let met = notes.met;
-    write_met(met, notes.refused_encounter);
+    write_met(out, met, notes.refused_encounter)?;
     write_warning(
-        b"the puck",
+        out,
+        "the puck",
         notes.refused_puck,
-        b"so the one before it holds",
-    );
+        "so the one before it holds",
+    )?;
     write_warning(
-        b"the delay acceleration",
+        out,
+        "the delay acceleration",
         notes.refused_acceleration,
-        b"so the one before it holds",
-    );
+        "so the one before it holds",
+    )
 }
 
 fn is_question(given: Record) -> bool {
@@ -322,16 +336,24 @@ fn is_question(given: Record) -> bool {
 }
 
 // An answer with its number, the record that it answers, and what a question was asked of.
-fn write_answered(number: usize, answer: Answer, place: Place, given: Record, notes: Notes) {
-    write_number(b"answer ", number as u64);
-    write(b": ");
-    write_answer(answer);
-    write_place(b"\n    record ", place);
-    write_record(given);
-    write(b"\n");
+fn write_answered(
+    out: &impl Print,
+    number: usize,
+    answer: Answer,
+    place: Place,
+    given: Record,
+    notes: Notes,
+) -> io::Result<()> {
+    write_number(out, "answer ", number as u64)?;
+    write(out, ": ")?;
+    write_answer(out, answer)?;
+    write_place(out, "\n    record ", place)?;
+    write_record(out, given)?;
+    write(out, "\n")?;
     if is_question(given) {
-        write_asked(notes);
+        write_asked(out, notes)?;
     }
+    Ok(())
 }
 
 fn met_after(met: Met, number: usize, encounter: Encounter, reply: Reply) -> Met {
@@ -388,10 +410,17 @@ fn no_notes() -> Notes {
 }
 
 // Says the reply, if there is one, as the answer of that number.
-fn write_reply(number: usize, reply: Reply, place: Place, given: Record, notes: Notes) {
+fn write_reply(
+    out: &impl Print,
+    number: usize,
+    reply: Reply,
+    place: Place,
+    given: Record,
+    notes: Notes,
+) -> io::Result<()> {
     match reply {
-        Reply::Silent => {}
-        Reply::Answered(answer) => write_answered(number, answer, place, given, notes),
+        Reply::Silent => Ok(()),
+        Reply::Answered(answer) => write_answered(out, number, answer, place, given, notes),
     }
 }
 
@@ -404,14 +433,14 @@ fn answer_count(reply: Reply) -> usize
     }
 }
 
-fn write_totals(records: usize, answers: usize) {
-    write_number(b"records ", records as u64);
-    write_number(b", answers ", answers as u64);
-    write(b"\n");
+fn write_totals(out: &impl Print, records: usize, answers: usize) -> io::Result<()> {
+    write_number(out, "records ", records as u64)?;
+    write_number(out, ", answers ", answers as u64)?;
+    write(out, "\n")
 }
 
 // All records of an accepted sheet, in order.
-fn write_records(sheet: &[u8])
+fn write_records(out: &impl Print, sheet: &[u8]) -> io::Result<()>
     requires { sheet_check sheet.now ≡ Accepted }
 {
     let mut at: usize = 0;
@@ -427,13 +456,13 @@ fn write_records(sheet: &[u8])
             record: records,
             byte: at,
         };
-        write_reply(answers + 1, reply, place, given, notes);
+        write_reply(out, answers + 1, reply, place, given, notes)?;
         answers = answers + answer_count(reply);
         notes = notes_after(notes, records, given, reply);
         state = state_after(state, given);
         at = next_at(sheet, at);
     }
-    write_totals(records, answers);
+    write_totals(out, records, answers)
 }
 
 fn is_unknown(given: Record) -> bool {
@@ -447,13 +476,13 @@ fn is_unknown(given: Record) -> bool {
     }
 }
 
-fn write_fault(place: Place) {
-    write_place(b"    record ", place);
-    write(b"\n");
+fn write_fault(out: &impl Print, place: Place) -> io::Result<()> {
+    write_place(out, "    record ", place)?;
+    write(out, "\n")
 }
 
 // The first record that is cut short or of unknown kind.
-fn write_first_fault(sheet: &[u8]) {
+fn write_first_fault(out: &impl Print, sheet: &[u8]) -> io::Result<()> {
     let mut at: usize = 0;
     let mut records: usize = 0;
     while at < sheet.len() {
@@ -464,50 +493,49 @@ fn write_first_fault(sheet: &[u8]) {
         };
         let next = next_at(sheet, at);
         if sheet.len() < next {
-            write_fault(place);
-            return;
+            return write_fault(out, place);
         }
         if is_unknown(record_at(sheet, at)) {
-            write_fault(place);
-            return;
+            return write_fault(out, place);
         }
         at = next;
     }
+    Ok(())
 }
 
-fn write_refused_sheet(sheet: &[u8], number: u8) {
-    write_number(b"sheet refused, ", number as u64);
-    write(b": ");
-    write_sheet_refusal(number);
-    write(b"\n");
+fn write_refused_sheet(out: &impl Print, sheet: &[u8], number: u8) -> io::Result<()> {
+    write_number(out, "sheet refused, ", number as u64)?;
+    write(out, ": ")?;
+    write_sheet_refusal(out, number)?;
+    write(out, "\n")?;
     if number != 10 {
-        write_first_fault(sheet);
+        write_first_fault(out, sheet)?;
     }
+    Ok(())
 }
 
-fn write_sheet(sheet: &[u8]) {
+fn write_sheet(out: &impl Print, sheet: &[u8]) -> io::Result<()> {
     match check_sheet(sheet) {
-        Checked::Refused(number) => write_refused_sheet(sheet, number),
-        Checked::Accepted => write_records(sheet),
+        Checked::Refused(number) => write_refused_sheet(out, sheet, number),
+        Checked::Accepted => write_records(out, sheet),
     }
 }
 
-fn answer_file(file: i32) {
+fn answer_file<P: Print, R: Read>(out: &P, file: &mut R) -> io::Result<()> {
     let mut sheet = [0u8; SHEET_ROOM];
-    let length = io::read_full(file, &mut sheet);
-    write_sheet(&sheet[..length]);
+    let length = read_full(file, &mut sheet)?;
+    write_sheet(out, &sheet[..length])
 }
 
-fn answer_named(name: &[u8]) {
-    let file = os::open_read(name);
-    if file < 0 {
-        os::fail(name);
-        return;
+fn answer_named<R: Print + Eprint + Files>(rt: &R, name: &[u8]) -> io::Result<()> {
+    match open_named(rt, name) {
+        Ok(mut file) => {
+            rt.write_all(name)?;
+            write(rt, "\n")?;
+            answer_file(rt, &mut file)
+        }
+        Err(error) => say_unread(rt, name, error),
     }
-    write(name);
-    write(b"\n");
-    answer_file(file);
-    libc::close(file);
 }
 
 fn is_standard_input(name: &[u8]) -> bool {
@@ -517,21 +545,23 @@ fn is_standard_input(name: &[u8]) -> bool {
     name[0] == b'-'
 }
 
-fn answer_argument(k: usize) {
-    let mut name = io::buffer();
-    let length = os::arg(k, &mut name);
+fn answer_argument<R: Print + Eprint + Input + Files + Env>(rt: &R, k: usize) -> io::Result<()> {
+    let mut name = name_room();
+    let length = argument(rt, k, &mut name);
     if is_standard_input(&name[..length]) {
-        answer_file(STANDARD_INPUT);
+        let mut input = rt.reader();
+        answer_file(rt, &mut input)
     } else {
-        answer_named(&name[..length]);
+        answer_named(rt, &name[..length])
     }
 }
 
-fn main() {
-    let count = os::arg_count();
+fn main(rt: HostRuntime) -> io::Result<()> {
+    let count = argument_count(&rt);
     let mut k: usize = 1;
     while k < count {
-        answer_argument(k);
+        answer_argument(&rt, k)?;
         k = k + 1;
     }
+    Ok(())
 }

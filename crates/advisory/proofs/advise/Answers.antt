@@ -1,6 +1,5 @@
 -- `advisory::advise` meets its contract: what the two look-ups answer is put together as the definition does.
 use mathlib.Core.Path.{sym, ◌∙◌, ap, ap₂}
-use borrow.Author.Rules.{rules}
 use Rattle.advisory.specs.ReactionTable.{reaction_table, row_of}
 use Rattle.advisory.specs.Advised.{together, advised_of}
 use Rattle.advisory.specs.declared.Listing.{Listing}

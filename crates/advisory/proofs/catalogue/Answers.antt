@@ -1,5 +1,4 @@
 -- `advisory::catalogue` meets its contract: the ranges of its decision are those of the catalogue's codes.
-use borrow.Author.Rules.{rules}
 use borrow.Author.Tests.{le-leb, lt-leb}
 use native.Mathlib.Omega.{arith}
 use Rattle.advisory.specs.Catalogue.{catalogue_of}

@@ -1,5 +1,4 @@
 -- `advisory::reaction_row` meets its contract: the array is the list of the definition.
-use borrow.Author.Rules.{rules}
 use Rattle.advisory.specs.ReactionTable.{row, reaction_table}
 use Rattle.advisory.proofs.Rows.{row_inside, row_past}
 use Rattle.advisory.proofs.reaction_row.Goals as goal

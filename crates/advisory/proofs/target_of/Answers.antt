@@ -71,7 +71,7 @@ pub returns-in_default : goal.returns-in_default
 unfolding article_entries
 returns-in_default c =
     let code = c.args.code in
-    let rest = c.in-1.rest in
+    let rest = c.in_default.in_default-own.rest in
     simp (
       ne_eqb code 16 rest.1,
       ne_eqb code 15 rest.0.1,

@@ -1,8 +1,6 @@
 -- `instant::gcd` meets its contract: each turn of the loop is a step of `gcd`, and keeps its value. The measure is y.
-use mathlib.Core.Path.{◌≡◌, refl, sym, ◌∙◌}
-use native.Mathlib.Nat.{mod-lt}
+use mathlib.Core.Path.{sym, ◌∙◌}
 use native.Mathlib.Omega.{arith}
-use Rattle.instant.specs.Lowest.{gcd}
 use Rattle.instant.proofs.Euclid.{gcd_step}
 use Rattle.instant.proofs.gcd.Goals as goal
 

@@ -1,9 +1,6 @@
 -- `instant::gcd` meets its contract: each turn of the loop is a step of `gcd`, and keeps its value. The measure is y.
-use mathlib.Core.Path.{◌≡◌, refl, sym, ◌∙◌}
-use native.Mathlib.Nat.{mod-lt}
-use native.Mathlib.Omega.{arith}
+use mathlib.Core.Path.{◌≡◌}
 use Rattle.instant.specs.Lowest.{gcd}
-use Rattle.instant.proofs.Euclid.{gcd_step}
 use Rattle.instant.proofs.gcd.Given as goal
 
 abbrev pub invariant-loop-y : goal.invariant-loop-y

@@ -3,9 +3,8 @@
 use mathlib.Core.Path.{◌≡◌, sym}
 use Prim.Native.Nat.{ℕ, ◌/◌, ◌%◌, ◌^◌, ◌<◌, ◌∣◌}
 use native.Mathlib.Nat.{pos_of_ne-zero, div-one}
-use borrow.Author.Rules.{rules}
 use Rattle.instant.specs.Lowest.{gcd, lowest}
-use Rattle.instant.proofs.FactorsOfTwo.{shared_twos, shared_left, shared_right, shared_below}
+use Rattle.instant.proofs.FactorsOfTwo.{shared_twos, shared_left, shared_right}
 use Rattle.instant.proofs.LowestTerms.{factor_out_pos, factor_out}
 use Rattle.instant.proofs.lowest_terms.Goals as goal
 

@@ -1,8 +1,6 @@
 -- `instant::short_gcd` meets its contract: as for `gcd`, and where y is 1 the last step is known, since gcd(x, 1) computes to 1.
-use mathlib.Core.Path.{◌≡◌, refl, sym, ◌∙◌}
-use native.Mathlib.Nat.{mod-lt}
+use mathlib.Core.Path.{sym, ◌∙◌}
 use native.Mathlib.Omega.{arith}
-use Rattle.instant.specs.Lowest.{gcd}
 use Rattle.instant.proofs.Euclid.{gcd_step}
 use Rattle.instant.proofs.short_gcd.Goals as goal
 

@@ -1,0 +1,31 @@
+-- `conflict::upper_not_beyond` meets its contract: during the delay the comparison is the definition's with the strength divided out, and after it the rule's is
+-- the definition's with the height at the delay's end taken from both sides.
+use mathlib.Core.Path.{ap, ◌∙◌}
+use Prim.Native.Nat.{◌*◌, ◌-◌}
+use native.Mathlib.Omega.{arith}
+use Rattle.path.specs.declared.Side.TheVariants.{Upper}
+use Rattle.conflict.specs.declared.AdviceRule.{AdviceRule}
+use Rattle.conflict.specs.inner.Divided.{rule_not_beyond}
+use Rattle.conflict.proofs.Divided.{delay_divided, rule_divided}
+use Rattle.conflict.proofs.Fields.{rule_sizes}
+use Rattle.conflict.proofs.upper_not_beyond.Goals as goal
+
+pub returns-then-n-end : goal.returns-then-n-end
+returns-then-n-end c =
+    c.delay_not_beyond.ensures ∙ delay_divided Upper c.args.s c.args.n c.args.m c.requires.sized c.if-n-end.true
+
+pub rule_not_beyond-requires-clause-rule_sizes : goal.rule_not_beyond-requires-clause-rule_sizes
+rule_not_beyond-requires-clause-rule_sizes c =
+    let s = c.args.s in
+    let z = c.requires.sized in
+    let h = c.requires.in_reach in
+    rw c.advice_rule-rule.ensures (rule_sizes Upper s z)
+
+pub returns : goal.returns
+returns c =
+    let s = c.args.s in
+    let n = c.args.n in
+    let m = c.args.m in
+    c.rule_not_beyond.ensures
+    ∙ ap (λ (rule : AdviceRule). rule_not_beyond Upper rule (n - s.delay * m) m) c.advice_rule-rule.ensures
+    ∙ rule_divided Upper s n m (omega (arith, c.if-n-end.false))

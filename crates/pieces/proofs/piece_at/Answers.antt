@@ -1,0 +1,12 @@
+-- `pieces::piece_at` meets its contract: the code tries the pieces in the definition's order.
+use mathlib.Core.Path.{sym, subst}
+use native.Mathlib.Omega.{arith}
+use Rattle.instant.specs.inner.Sizes.{SizedInstant}
+use Rattle.pieces.specs.declared.WholePiece.{WholePiece}
+use Rattle.pieces.proofs.Fields.{last_from_sized}
+use Rattle.pieces.proofs.piece_at.Goals as goal
+
+pub no_later-requires : goal.no_later-requires
+no_later-requires c =
+    let y = c in
+    (subst (λ (p : WholePiece). SizedInstant p.from) (sym c.last_piece-last.ensures) (last_from_sized y.args.s y.requires.sizes), record { n = omega (arith, y.requires.second_le_last_second); m = omega arith })
