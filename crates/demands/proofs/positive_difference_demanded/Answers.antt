@@ -2,11 +2,12 @@
 use mathlib.Core.Path.{◌≡◌, refl, sym, subst}
 use mathlib.Core.Logic.{◌⊎◌, inl, inr}
 use Prim.Native.Nat.{ℕ}
-use native.Mathlib.Omega.{arith}
 use lib.IntN.{ℤ, pos, negsuc, ◌-ℤ◌}
 use Rattle.integers.specs.Extremes.{max0}
 use Rattle.integers.proofs.Certificates.{0≤pos}
 use Rattle.integers.proofs.Laws.{nat_abs_in, max0_ge}
+use Rattle.integers.proofs.Machine.{fitting, plain_call, plain_terms}
+use Rattle.conflict.proofs.PositiveDifference.{operand}
 use Rattle.demands.specs.Larger.{LargerOfZero}
 use Rattle.demands.proofs.positive_difference_demanded.Goals as goal
 
@@ -18,12 +19,14 @@ positive_part_larger z = record { at_least_zero = 0≤pos (max0 z); at_least_dif
     which (negsuc n) = inl refl
 
 pub positive_difference-requires-clause-q_bound : goal.positive_difference-requires-clause-q_bound
-positive_difference-requires-clause-q_bound c = omega (arith, nat_abs_in c.args.q 200000 c.requires.in_range.0 c.requires.in_range.1)
+positive_difference-requires-clause-q_bound c = operand c.args.q _ (nat_abs_in c.args.q _ c.requires.in_range.0 c.requires.in_range.1) tt
 
 pub positive_difference-requires-clause-u_bound : goal.positive_difference-requires-clause-u_bound
-positive_difference-requires-clause-u_bound c = omega (arith, nat_abs_in c.args.u 200000 c.requires.in_range_2.0 c.requires.in_range_2.1)
+positive_difference-requires-clause-u_bound c = operand c.args.u _ (nat_abs_in c.args.u _ c.requires.in_range_2.0 c.requires.in_range_2.1) tt
 
 pub returns : goal.returns
 returns c =
-    let d = c.args.q -ℤ c.args.u in
-    subst (λ (n : ℕ). LargerOfZero d (pos n)) (sym c.positive_difference.ensures) (positive_part_larger d)
+    let x = c.args in
+    let v = fitting x.q c.ranges.q in
+    let w = fitting x.u c.ranges.u in
+    subst (λ (n : ℕ). LargerOfZero (x.q -ℤ x.u) (pos n)) (sym (plain_call c.positive_difference.ensures (search plain_terms depth 20) tt)) (positive_part_larger (x.q -ℤ x.u))
