@@ -26,7 +26,7 @@ def files(*kinds):
 
 
 def generated(path):
-    return os.path.basename(path) in ("Proof.antt", "Answers.antt", "Invariants.antt")
+    return os.path.basename(path) in ("Proof.antt", "Answers.antt", "Invariants.antt") and "specs" not in path.split(os.sep)
 
 
 def own_crates():

@@ -30,7 +30,7 @@ use Rattle.question.specs.Refusals.{is_number, encounter_within, puck_within, de
 use Rattle.sensed.specs.Sensed.{sensed_question}
 use Rattle.coded.specs.Coded.{sense_number, instructed, maintainable, asked, coded_question}
 use Rattle.verdict.specs.Verdicts.{verdict}
-use Rattle.judge.specs.Answers.{checkedAnswer, answer}
+use Rattle.judge.specs.Answers.{checked_answer, answer}
 use Rattle.integers.proofs.Branches.{picks_yes, picks_no}
 use Rattle.question.proofs.WithinLimits.{Between, between}
 use Rattle.answering.specs.declared.LastEncounter.{LastEncounter}
@@ -55,7 +55,7 @@ fails_right true e = e
 fails_right false e = refl
 
 -- ---- the plain judge, where the encounter and the settings are within their limits: the question's own numbers
-refused_is : (k : Checked) (v : Verdict) → refusal_in (checkedAnswer k v) ≡ k
+refused_is : (k : Checked) (v : Verdict) → refusal_in (checked_answer k v) ≡ k
 refused_is Checked.Accepted v = refl
 refused_is (Checked.Refused n) v = refl
 

@@ -2,7 +2,7 @@
 #![tactic(auto)]
 
 ghost use Rattle.std.specs.Prelude.{◌≡◌};
-ghost use Rattle.judge.specs.Answers.{answerRecord};
+ghost use Rattle.judge.specs.Answers.{answer_record};
 ghost use Rattle.reply.specs.AnswerBytes.{reply_record};
 ghost use Rattle.answering.specs.States.{starting_state, with_puck, with_delay_acceleration, with_settings, with_encounter, state_after};
 ghost use Rattle.answering.specs.Replies.{settings_reply, coded_answer, free_answer, reply_to};
@@ -125,7 +125,7 @@ fn settings_reply(accepted: bool, number: u8) -> Reply
 
 #[tactic(auto, unfolding(crate::specs::Replies::coded_answer))]
 fn coded_answer(encounter: LastEncounter, settings: Settings, code: u8, limit: i64) -> Answer
-    ensures { answerRecord result ≡ answerRecord (coded_answer encounter settings code limit) }
+    ensures { answer_record result ≡ answer_record (coded_answer encounter settings code limit) }
 {
     match encounter {
         LastEncounter::Absent => Answer::Refused(7),
@@ -138,7 +138,7 @@ fn coded_answer(encounter: LastEncounter, settings: Settings, code: u8, limit: i
 
 #[tactic(auto, unfolding(crate::specs::Replies::free_answer))]
 fn free_answer(encounter: LastEncounter, settings: Settings, question: Question) -> Answer
-    ensures { answerRecord result ≡ answerRecord (free_answer encounter settings question) }
+    ensures { answer_record result ≡ answer_record (free_answer encounter settings question) }
 {
     match encounter {
         LastEncounter::Absent => Answer::Refused(7),

@@ -6,7 +6,7 @@ use Rattle.instant.specs.Lowest.{no_time}
 use Rattle.verdict.specs.declared.Verdict.{Verdict}
 use Rattle.verdict.specs.declared.Verdict.TheVariants.{Clear, Conflict, Conflicts}
 use Rattle.judge.specs.declared.Answer.{Answer}
-use Rattle.judge.specs.Answers.{sidesNumber}
+use Rattle.judge.specs.Answers.{sides_number}
 use Rattle.sheet.specs.declared.Outcome.{Outcome}
 use Rattle.sheet.specs.declared.Outcome.TheVariants.{Accepted, Refused}
 use Rattle.binding.specs.declared.JudgeResult.{JudgeResult}
@@ -26,7 +26,7 @@ with_times kind number lower upper = record {
 }
 
 abbrev pub flat_verdict : Verdict → JudgeResult
-flat_verdict (Clear sides) = with_times 65 (sidesNumber sides) no_time no_time
+flat_verdict (Clear sides) = with_times 65 (sides_number sides) no_time no_time
 flat_verdict (Conflict t) = with_times 66 0 t no_time
 flat_verdict (Conflicts t u) = with_times 67 0 t u
 

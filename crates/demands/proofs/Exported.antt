@@ -14,7 +14,7 @@ use Rattle.question.specs.declared.Question.{Question}
 use Rattle.question.specs.declared.Checked.{Checked}
 use Rattle.verdict.specs.declared.Verdict.TheVariants.{Clear, Conflict, Conflicts}
 use Rattle.judge.specs.declared.Answer.{Answer}
-use Rattle.judge.specs.Answers.{answer, answerRecord}
+use Rattle.judge.specs.Answers.{answer, answer_record}
 use Rattle.record.specs.Kinds.{known, kind_of, body_length}
 use Rattle.record.specs.SheetCheck.{longest_sheet, fault_after, sheet_check}
 use Rattle.sheet.specs.declared.Outcome.{Outcome}
@@ -27,7 +27,7 @@ use Rattle.demands.specs.Sheets.{outcome_in}
 use Rattle.demands.proofs.PlainAnswers.{answer_right}
 
 -- ---- an answer
-record_held : (a : Answer) → record_in (flat_answer a) ≡ answerRecord a
+record_held : (a : Answer) → record_in (flat_answer a) ≡ answer_record a
 record_held (Answer.Judged (Clear sides)) = refl
 record_held (Answer.Judged (Conflict t)) = refl
 record_held (Answer.Judged (Conflicts t u)) = refl

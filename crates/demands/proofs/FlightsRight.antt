@@ -17,7 +17,7 @@ use Rattle.verdict.specs.declared.Verdict.{Verdict}
 use Rattle.verdict.specs.declared.Verdict.TheVariants.{Clear}
 use Rattle.verdict.specs.Verdicts.{verdict}
 use Rattle.judge.specs.declared.Answer.{Answer}
-use Rattle.judge.specs.Answers.{answer, answerRecord}
+use Rattle.judge.specs.Answers.{answer, answer_record}
 use Rattle.judge.specs.Demand3.{SaysConflict}
 use Rattle.judge.proofs.Demand3.{judged}
 use Rattle.judge.proofs.AnswerRecords.{record_determines}
@@ -95,7 +95,7 @@ module _ (x : Encounter) (y : Settings) (z : OneSidedAdvice) (l : List ℤ) wher
       said : (v : Verdict) (sides : ClearSides) → Answer.Judged v ≡ Answer.Judged (Clear sides) → v ≡ Clear sides
       said v sides e = cc
 
-  pub kept_out : (r : Answer) (t : FlightAnswer) → answerRecord r ≡ answerRecord (answer x y (asked z)) → flight_record t ≡ flight_record (flight_answer x y z l) → ClearKeepsOut x y z l r t
+  pub kept_out : (r : Answer) (t : FlightAnswer) → answer_record r ≡ answer_record (answer x y (asked z)) → flight_record t ≡ flight_record (flight_answer x y z l) → ClearKeepsOut x y z l r t
   kept_out r t e g =
       subst (λ (j : Answer). ClearKeepsOut x y z l j t) (sym (record_determines r (answer x y (asked z)) e))
       (subst (ClearKeepsOut x y z l (answer x y (asked z))) (sym (flight_determined t (flight_answer x y z l) g)) clear_right)

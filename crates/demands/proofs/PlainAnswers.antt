@@ -24,7 +24,7 @@ use Rattle.verdict.specs.declared.Verdict.{Verdict}
 use Rattle.verdict.specs.declared.Verdict.TheVariants.{Clear, Conflict, Conflicts}
 use Rattle.verdict.specs.Verdicts.{verdict}
 use Rattle.judge.specs.declared.Answer.{Answer}
-use Rattle.judge.specs.Answers.{checkedAnswer, answer, answerRecord}
+use Rattle.judge.specs.Answers.{checked_answer, answer, answer_record}
 use Rattle.judge.specs.Demand3 as judge
 use Rattle.judge.proofs.Demand3.{judged, demand_3, one_sided_exactly, two_sided_exactly}
 use Rattle.judge.proofs.AnswerRecords.{record_determines}
@@ -118,12 +118,12 @@ module _ (x : Encounter) (y : Settings) (z : Question) (accepted : refusal x y z
 pub answer_right : (x : Encounter) (y : Settings) (z : Question) → RightlyAnswered x y z (answer x y z)
 unfolding answer
 answer_right x y z = record {
-  refused = λ number e. ap (λ (k : Checked). checkedAnswer k (verdict z (sensed_question x y z))) e;
+  refused = λ number e. ap (λ (k : Checked). checked_answer k (verdict z (sensed_question x y z))) e;
   judged = judged_as x y z;
   one_sided_lem = region x y z;
   two_sided_lem = clear_outside_band x y z;
   without_delay = answer_without_delay x y z;
 }
 
-pub rightly : (x : Encounter) (y : Settings) (z : Question) (r : Answer) → answerRecord r ≡ answerRecord (answer x y z) → RightlyAnswered x y z r
+pub rightly : (x : Encounter) (y : Settings) (z : Question) (r : Answer) → answer_record r ≡ answer_record (answer x y z) → RightlyAnswered x y z r
 rightly x y z r e = subst (RightlyAnswered x y z) (sym (record_determines r (answer x y z) e)) (answer_right x y z)

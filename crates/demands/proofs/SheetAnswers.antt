@@ -19,7 +19,7 @@ use Rattle.coded.specs.Coded.{coded_question}
 use Rattle.coded.proofs.EarlierCodes.{issued}
 use Rattle.integers.proofs.Branches.{picks_yes, picks_no}
 use Rattle.judge.specs.declared.Answer.{Answer}
-use Rattle.judge.specs.Answers.{answer, answerRecord}
+use Rattle.judge.specs.Answers.{answer, answer_record}
 use Rattle.record.specs.declared.Record.{Record}
 use Rattle.record.specs.Records.{records}
 use Rattle.record.specs.SheetCheck.{longest_sheet, sheet_check}
@@ -118,7 +118,7 @@ module _ (sheet : List ℕ) (earlier : List Record) (given : Record) (later : Li
           line = clear.line;
           in_table_1 = clear.in_table_1;
           figure_5 = clear.clear.by_result (Coded st.encounter)
-              (ap answerRecord (asked_is st.encounter x clear.question e (ap (coded_question code x.speed) no-limit ∙ clear.asked)));
+              (ap answer_record (asked_is st.encounter x clear.question e (ap (coded_question code x.speed) no-limit ∙ clear.asked)));
         }
 
   coded_answered : (code : ℕ) (limit : ℤ) → code < 256 → given ≡ Record.Coded code limit → (r : Answer) × CodedAnswered (sheet_answer sheet) earlier given later code limit r

@@ -18,14 +18,14 @@ use Rattle.question.specs.declared.Question.{Question}
 use Rattle.limits.specs.Limits.{no_limit}
 use Rattle.sensed.specs.Sensed.{sensed_question}
 use Rattle.judge.specs.declared.Answer.{Answer}
-use Rattle.judge.specs.Answers.{answerRecord}
+use Rattle.judge.specs.Answers.{answer_record}
 use Rattle.region.specs.Formula.{Formula, Says}
 use Rattle.region.specs.Regions.{L_expl, D_expl}
 use Rattle.region.specs.JudgedRegion.{clear_record, advisory_region}
 
 -- the answer is "clear" exactly in a region
 abbrev pub ClearIn : Answer → Formula → Type 0
-ClearIn answer region = (answerRecord answer ≡ clear_record) ↔ Says region
+ClearIn answer region = (answer_record answer ≡ clear_record) ↔ Says region
 
 -- a one-sided question without a limit: Figure 5 with any delay, Figure 3 without one
 pub record Demand2 (x : Encounter) (y : Settings) (z : Question) (answer : Answer) : Type 0 where

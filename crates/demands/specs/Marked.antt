@@ -8,7 +8,7 @@ use Rattle.question.specs.declared.Checked.TheVariants.{Accepted}
 use Rattle.question.specs.StartingSettings.{starting_settings}
 use Rattle.question.specs.Refusals.{refusal}
 use Rattle.coded.specs.declared.CodedQuestion.{CodedQuestion}
-use Rattle.judge.specs.Answers.{answer, answerRecord}
+use Rattle.judge.specs.Answers.{answer, answer_record}
 use Rattle.judge.specs.Examples.{Example, examples, delayed_examples}
 use Rattle.judge.specs.Marked.{Proved}
 use Rattle.judge.specs.Mirror.{mirrored, turned}
@@ -24,7 +24,7 @@ pub record Marked (m : Example) : Type 0 where
   pub question : Question
   pub asked : m.question ≡ CodedQuestion.Asked question
   pub accepted : refusal m.encounter starting_settings question ≡ Accepted
-  pub answered : answerRecord (answer m.encounter starting_settings question) ≡ m.answer
+  pub answered : answer_record (answer m.encounter starting_settings question) ≡ m.answer
   pub right : RightlyAnswered m.encounter starting_settings question (answer m.encounter starting_settings question)
 
 -- and the same in the terms of `judge`'s own demand 3

@@ -9,7 +9,7 @@ use Rattle.question.specs.Refusals.{two_sided, refusal}
 use Rattle.sensed.specs.Sensed.{sensed_question}
 use Rattle.verdict.specs.declared.Verdict.{Verdict}
 use Rattle.judge.specs.declared.Answer.{Answer}
-use Rattle.judge.specs.Answers.{AnswerRecord, answers, answerRecord}
+use Rattle.judge.specs.Answers.{AnswerRecord, answers, answer_record}
 use Rattle.judge.proofs.WithoutDelay.{earlier_answer}
 use Rattle.binding.specs.declared.JudgeResult.{JudgeResult}
 use Rattle.demands.specs.Demand2.{Demand2}
@@ -45,4 +45,4 @@ record_in f = answers f.kind (values_in f)
 
 -- its numbers are those of a right answer's record
 abbrev pub RightlyExported : Encounter → Settings → Question → JudgeResult → Type 0
-RightlyExported x y z out = (answer : Answer) × (record_in out ≡ answerRecord answer) × RightlyAnswered x y z answer
+RightlyExported x y z out = (answer : Answer) × (record_in out ≡ answer_record answer) × RightlyAnswered x y z answer

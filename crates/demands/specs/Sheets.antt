@@ -9,7 +9,7 @@ use Rattle.question.specs.Refusals.{encounter_within, puck_within, delay_acceler
 use Rattle.coded.specs.declared.CodedQuestion.{CodedQuestion}
 use Rattle.coded.specs.Coded.{coded_question}
 use Rattle.judge.specs.declared.Answer.{Answer}
-use Rattle.judge.specs.Answers.{answerRecord}
+use Rattle.judge.specs.Answers.{answer_record}
 use Rattle.record.specs.declared.Record.{Record}
 use Rattle.record.specs.Records.{records}
 use Rattle.record.specs.SheetCheck.{longest_sheet, fault_after, sheet_check}
@@ -41,7 +41,7 @@ module _ (answers : List ℕ) (earlier : List Record) (given : Record) (later : 
 
   -- its answer record stands after the answers to the records before it, and before the answers to those after it
   abbrev pub AnsweredBy : Answer → Type 0
-  AnsweredBy r = answers ≡ answers_from starting_state earlier ++ (record_bytes (answerRecord r) ++ answers_from (state_after state_there given) later)
+  AnsweredBy r = answers ≡ answers_from starting_state earlier ++ (record_bytes (answer_record r) ++ answers_from (state_after state_there given) later)
 
   -- a free question: 7, 4, 5, 14, 15, 16, 6 (`free_checks`); asked of an encounter, the plain answer
   pub record FreeAnswered (z : Question) (r : Answer) : Type 0 where

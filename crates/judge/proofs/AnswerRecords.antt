@@ -8,7 +8,7 @@ use Rattle.instant.specs.declared.Time.{Time}
 use Rattle.verdict.specs.declared.ClearSides.{ClearSides}
 use Rattle.verdict.specs.declared.Verdict.TheVariants.{Clear, Conflict, Conflicts}
 use Rattle.judge.specs.declared.Answer.{Answer}
-use Rattle.judge.specs.Answers.{AnswerRecord, sidesNumber, answerRecord}
+use Rattle.judge.specs.Answers.{AnswerRecord, sides_number, answer_record}
 
 -- a record's value at a place
 abbrev nth : ℕ → List ℕ → ℕ
@@ -19,7 +19,7 @@ nth (suc i) (x ∷ l) = nth i l
 values : (i : ℕ) {a b : AnswerRecord} → a ≡ b → nth i a.values ≡ nth i b.values
 values i e = ap (λ (r : AnswerRecord). nth i r.values) e
 
-same_sides : (a b : ClearSides) → sidesNumber a ≡ sidesNumber b → a ≡ b
+same_sides : (a b : ClearSides) → sides_number a ≡ sides_number b → a ≡ b
 same_sides ClearSides.Lower ClearSides.Lower e = refl
 same_sides ClearSides.Lower ClearSides.Upper e = absurd (omega arith)
 same_sides ClearSides.Lower ClearSides.Both e = absurd (omega arith)
@@ -40,7 +40,7 @@ same_time t u e f g = ap (λ (s : ℕ). time s t.remainder t.divisor) e ∙ ap�
 differ : {X : Type 0} {a b : AnswerRecord} → a ≡ b → ¬ (a.kind ≡ b.kind) → X
 differ e h = absurd (h (ap (λ (r : AnswerRecord). r.kind) e))
 
-pub record_determines : (a b : Answer) → answerRecord a ≡ answerRecord b → a ≡ b
+pub record_determines : (a b : Answer) → answer_record a ≡ answer_record b → a ≡ b
 record_determines (Answer.Judged (Clear s)) (Answer.Judged (Clear t)) e = ap (λ (x : ClearSides). Answer.Judged (Clear x)) (same_sides s t (values 0 e))
 record_determines (Answer.Judged (Clear s)) (Answer.Judged (Conflict t)) e = differ e (λ h. omega arith)
 record_determines (Answer.Judged (Clear s)) (Answer.Judged (Conflicts t u)) e = differ e (λ h. omega arith)

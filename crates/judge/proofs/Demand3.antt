@@ -26,7 +26,7 @@ use Rattle.judge.specs.declared.Answer.{Answer}
 use Rattle.question.specs.Refusals.{two_sided, refusal}
 use Rattle.sensed.specs.Sensed.{sensed_question}
 use Rattle.verdict.specs.Verdicts.{time_of, one_sided_verdict, two_sided_verdict, verdict}
-use Rattle.judge.specs.Answers.{checkedAnswer, answer, answerRecord}
+use Rattle.judge.specs.Answers.{checked_answer, answer, answer_record}
 use Rattle.judge.specs.Demand3.{ShownTime, RightOneSided, RightTwoSided, RightVerdict, RightAnswer, SaysConflict}
 use Rattle.judge.proofs.AnswerRecords.{record_determines}
 use Rattle.sensed.proofs.AcceptedSizes.{accepted_sizes, accepted_upper_sizes}
@@ -64,7 +64,7 @@ module _ (x : Encounter) (y : Settings) (z : Question) (accepted : refusal x y z
   -- an accepted question is judged
   pub judged : answer x y z ≡ Answer.Judged (verdict z (sensed_question x y z))
   unfolding answer
-  judged = ap (λ (c : Checked). checkedAnswer c (verdict z (sensed_question x y z))) accepted
+  judged = ap (λ (c : Checked). checked_answer c (verdict z (sensed_question x y z))) accepted
 
   pub one_sided_lem : two_sided z ≡ false → RightOneSided (sensed_question x y z) (verdict z (sensed_question x y z))
   unfolding verdict
@@ -103,7 +103,7 @@ module _ (x : Encounter) (y : Settings) (z : Question) (accepted : refusal x y z
   two_sided_exactly e = two_iff (verdict z (sensed_question x y z)) (two_sided_lem e)
 
 -- ---- demand 3 of the entry's result: whatever has the record of the answer is a right answer
-pub demand_3 : (x : Encounter) (y : Settings) (z : Question) → refusal x y z ≡ Checked.Accepted → (r : Answer) → answerRecord r ≡ answerRecord (answer x y z) → RightAnswer z (sensed_question x y z) r
+pub demand_3 : (x : Encounter) (y : Settings) (z : Question) → refusal x y z ≡ Checked.Accepted → (r : Answer) → answer_record r ≡ answer_record (answer x y z) → RightAnswer z (sensed_question x y z) r
 demand_3 x y z accepted r e = subst (RightAnswer z (sensed_question x y z)) (sym (record_determines r (answer x y z) e ∙ judged x y z accepted)) (go (two_sided z) refl)
   where
     go : (b : Bool) → two_sided z ≡ b → RightVerdict b (sensed_question x y z) (verdict z (sensed_question x y z))

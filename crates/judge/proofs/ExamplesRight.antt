@@ -14,7 +14,7 @@ use Rattle.question.specs.Refusals.{refusal}
 use Rattle.question.specs.StartingSettings.{starting_settings}
 use Rattle.coded.specs.declared.CodedQuestion.{CodedQuestion}
 use Rattle.coded.specs.Coded.{coded_question}
-use Rattle.judge.specs.Answers.{answer, answerRecord}
+use Rattle.judge.specs.Answers.{answer, answer_record}
 use Rattle.judge.specs.Examples.{Example, examples}
 use Rattle.judge.proofs.ExampleAnswers.{answer_to, answered}
 use Rattle.judge.proofs.ExamplesHold.{examples_hold}
@@ -38,7 +38,7 @@ examples_accepted : map (λ (m : Example). checked m.encounter m.question) examp
 unfolding examples refusal coded_question advised_of catalogue_of article_entries not_judged reaction_table
 examples_accepted = refl
 
-proved : (m : Example) (q : CodedQuestion) → m.question ≡ q → checked m.encounter q ≡ Checked.Accepted → answerRecord (answer_to m.encounter starting_settings q) ≡ m.answer → Proved m
+proved : (m : Example) (q : CodedQuestion) → m.question ≡ q → checked m.encounter q ≡ Checked.Accepted → answer_record (answer_to m.encounter starting_settings q) ≡ m.answer → Proved m
 proved m (CodedQuestion.Asked z) asked accepted answered = record { question = z; asked = asked; accepted = accepted; answered = answered; right = demand_3 m.encounter starting_settings z accepted (answer m.encounter starting_settings z) refl }
 proved m (CodedQuestion.Refused n) asked accepted answered = absurd (let z : ◌≡◌ {A = ℕ} 0 1 = cc in omega arith)
 

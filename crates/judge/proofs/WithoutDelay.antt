@@ -18,7 +18,7 @@ use Rattle.sensed.specs.Sensed.{sensed_question}
 use Rattle.verdict.specs.declared.Verdict.{Verdict}
 use Rattle.verdict.specs.Verdicts.{one_sided_verdict, two_sided_verdict, verdict_of, verdict}
 use Rattle.judge.specs.declared.Answer.{Answer}
-use Rattle.judge.specs.Answers.{checkedAnswer, answer}
+use Rattle.judge.specs.Answers.{checked_answer, answer}
 
 unfoldable pub earlier_verdict : Question → SensedQuestion → Verdict
 unfolding time_shown earlier_shown
@@ -26,7 +26,7 @@ earlier_verdict z s = verdict_of z (time_shown Lower s) (earlier_shown s)
 
 unfoldable pub earlier_answer : Encounter → Settings → Question → Answer
 unfolding earlier_refusal sensed_question earlier_verdict
-earlier_answer x y z = checkedAnswer (earlier_refusal x y z) (earlier_verdict z (sensed_question x y z))
+earlier_answer x y z = checked_answer (earlier_refusal x y z) (earlier_verdict z (sensed_question x y z))
 
 module _ (x : Encounter) (y : Settings) (z : Question) where
   no_delay_lem : z.delay ≡ pos 0 → (sensed_question x y z).delay ≡ 0
@@ -42,7 +42,7 @@ module _ (x : Encounter) (y : Settings) (z : Question) where
   -- "With delay 0 all answers equal the earlier ones"
   pub answer_without_delay : z.delay ≡ pos 0 → answer x y z ≡ earlier_answer x y z
   unfolding answer earlier_answer
-  answer_without_delay none = ap₂ checkedAnswer (refusal_without_delay x y z none) (verdict_without_delay none)
+  answer_without_delay none = ap₂ checked_answer (refusal_without_delay x y z none) (verdict_without_delay none)
 
   verdict_one_sided : two_sided z ≡ false → verdict z (sensed_question x y z) ≡ earlier_verdict z (sensed_question x y z)
   unfolding verdict earlier_verdict
@@ -53,4 +53,4 @@ module _ (x : Encounter) (y : Settings) (z : Question) where
 
   pub answer_one_sided : two_sided z ≡ false → answer x y z ≡ earlier_answer x y z
   unfolding answer earlier_answer
-  answer_one_sided one = ap₂ checkedAnswer (refusal_one_sided x y z one) (verdict_one_sided one)
+  answer_one_sided one = ap₂ checked_answer (refusal_one_sided x y z one) (verdict_one_sided one)

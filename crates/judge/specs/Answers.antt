@@ -14,13 +14,13 @@ use Rattle.sensed.specs.Sensed.{sensed_question}
 use Rattle.verdict.specs.Verdicts.{verdict}
 
 -- refused, or else judged
-abbrev pub checkedAnswer : Checked → Verdict → Answer
-checkedAnswer Checked.Accepted v = Answer.Judged v
-checkedAnswer (Checked.Refused n) v = Answer.Refused n
+abbrev pub checked_answer : Checked → Verdict → Answer
+checked_answer Checked.Accepted v = Answer.Judged v
+checked_answer (Checked.Refused n) v = Answer.Refused n
 
 unfoldable pub answer : Encounter → Settings → Question → Answer
 unfolding refusal sensed_question verdict
-answer x y z = checkedAnswer (refusal x y z) (verdict z (sensed_question x y z))
+answer x y z = checked_answer (refusal x y z) (verdict z (sensed_question x y z))
 
 -- an answer record: its kind, and the numbers of its body
 pub record AnswerRecord : Type 0 where
@@ -31,19 +31,19 @@ abbrev pub answers : ℕ → List ℕ → AnswerRecord
 answers kind values = record { kind = kind; values = values }
 
 -- "1 lower side clear, 2 upper, 3 both"
-abbrev pub sidesNumber : ClearSides → ℕ
-sidesNumber ClearSides.Lower = 1
-sidesNumber ClearSides.Upper = 2
-sidesNumber ClearSides.Both = 3
+abbrev pub sides_number : ClearSides → ℕ
+sides_number ClearSides.Lower = 1
+sides_number ClearSides.Upper = 2
+sides_number ClearSides.Both = 3
 
 -- "whole seconds, remainder, divisor"
-abbrev pub timeNumbers : Time → List ℕ
-timeNumbers t = t.seconds ∷ t.remainder ∷ t.divisor ∷ []
+abbrev pub time_numbers : Time → List ℕ
+time_numbers t = t.seconds ∷ t.remainder ∷ t.divisor ∷ []
 
 -- "kind 65 clear, body 1 byte (1 lower side clear, 2 upper, 3 both; one-sided always 1); kind 66 one-sided conflict, whole seconds, remainder, divisor, 4
 -- unsigned bytes each; kind 67 two such times, lower first; kind 68 one byte, the refusal number"
-abbrev pub answerRecord : Answer → AnswerRecord
-answerRecord (Answer.Judged (Clear sides)) = answers 65 (sidesNumber sides ∷ [])
-answerRecord (Answer.Judged (Conflict t)) = answers 66 (timeNumbers t)
-answerRecord (Answer.Judged (Conflicts t u)) = answers 67 (timeNumbers t ++ timeNumbers u)
-answerRecord (Answer.Refused n) = answers 68 (n ∷ [])
+abbrev pub answer_record : Answer → AnswerRecord
+answer_record (Answer.Judged (Clear sides)) = answers 65 (sides_number sides ∷ [])
+answer_record (Answer.Judged (Conflict t)) = answers 66 (time_numbers t)
+answer_record (Answer.Judged (Conflicts t u)) = answers 67 (time_numbers t ++ time_numbers u)
+answer_record (Answer.Refused n) = answers 68 (n ∷ [])

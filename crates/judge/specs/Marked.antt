@@ -6,7 +6,7 @@ use Rattle.question.specs.StartingSettings.{starting_settings}
 use Rattle.question.specs.Refusals.{refusal}
 use Rattle.coded.specs.declared.CodedQuestion.{CodedQuestion}
 use Rattle.sensed.specs.Sensed.{sensed_question}
-use Rattle.judge.specs.Answers.{answer, answerRecord}
+use Rattle.judge.specs.Answers.{answer, answer_record}
 use Rattle.judge.specs.Demand3.{RightAnswer}
 use Rattle.judge.specs.Examples.{Example}
 
@@ -15,5 +15,5 @@ pub record Proved (m : Example) : Type 0 where
   pub question : Question
   pub asked : m.question ≡ CodedQuestion.Asked question
   pub accepted : refusal m.encounter starting_settings question ≡ Accepted
-  pub answered : answerRecord (answer m.encounter starting_settings question) ≡ m.answer
+  pub answered : answer_record (answer m.encounter starting_settings question) ≡ m.answer
   pub right : RightAnswer question (sensed_question m.encounter starting_settings question) (answer m.encounter starting_settings question)

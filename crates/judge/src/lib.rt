@@ -2,7 +2,7 @@
 #![tactic(auto)]
 
 ghost use Rattle.std.specs.Prelude.{◌≡◌};
-ghost use Rattle.judge.specs.Answers.{answer, sidesNumber, answerRecord};
+ghost use Rattle.judge.specs.Answers.{answer, sides_number, answer_record};
 
 use question::{Checked, Encounter, Question, Settings};
 use refusals::check_question;
@@ -16,7 +16,7 @@ pub enum Answer {
 
 // "1 lower side clear, 2 upper, 3 both"
 pub fn sides_number(sides: ClearSides) -> u8
-    ensures { result ≡ sidesNumber sides }
+    ensures { result ≡ sides_number sides }
 {
     match sides {
         ClearSides::Lower => 1,
@@ -26,8 +26,9 @@ pub fn sides_number(sides: ClearSides) -> u8
 }
 
 // The entry for plain numbers: any 64-bit values.
+#[tactic(auto, unfolding(crate::specs::Answers::answer))]
 pub fn judge(encounter: Encounter, settings: Settings, question: Question) -> Answer
-    ensures { answerRecord result ≡ answerRecord (answer encounter settings question) }
+    ensures { answer_record result ≡ answer_record (answer encounter settings question) }
 {
     match check_question(encounter, settings, question) {
         Checked::Accepted => Answer::Judged(verdict_on(encounter, settings, question)),

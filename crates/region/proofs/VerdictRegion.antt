@@ -44,7 +44,7 @@ use Rattle.question.specs.Refusals.{is_number, two_sided, encounter_within, puck
 use Rattle.sensed.specs.Sensed.{limit_of, sensed_question}
 use Rattle.coded.specs.Coded.{sense_number, instructed, maintainable, asked, coded_question}
 use Rattle.verdict.specs.Verdicts.{verdict}
-use Rattle.judge.specs.Answers.{answer, AnswerRecord, answerRecord}
+use Rattle.judge.specs.Answers.{answer, AnswerRecord, answer_record}
 use Rattle.judge.specs.Demand3.{RightOneSided}
 use Rattle.question.proofs.WithinLimits.{Between, between, within_in, within_limits}
 use Rattle.sensed.proofs.AcceptedSizes.{accepted_sizes}
@@ -71,7 +71,7 @@ kind_of r = r.kind
 abbrev first_value : AnswerRecord → ℕ
 first_value r = get_or r.values 0 0
 
-clear_record_lem : (r : Answer) → answerRecord r ≡ clear_record → r ≡ clear_answer
+clear_record_lem : (r : Answer) → answer_record r ≡ clear_record → r ≡ clear_answer
 clear_record_lem (Answer.Judged (Clear ClearSides.Lower)) e = refl
 clear_record_lem (Answer.Judged (Clear ClearSides.Upper)) e = absurd (omega (arith, ap first_value e))
 clear_record_lem (Answer.Judged (Clear ClearSides.Both)) e = absurd (omega (arith, ap first_value e))
@@ -90,7 +90,7 @@ module _ (x : Encounter) (y : Settings) (z : Question) (accepted : refusal x y z
       record {
         by_verdict = by_verdict;
         by_answer = by_answer;
-        by_result = λ r same. Iff.trans (λ e. clear_record_lem (answer x y z) (sym same ∙ e), λ e. same ∙ ap answerRecord e) by_answer;
+        by_result = λ r same. Iff.trans (λ e. clear_record_lem (answer x y z) (sym same ∙ e), λ e. same ∙ ap answer_record e) by_answer;
       }
 
   module _ (no-limit : z.limit ≡ no_limit) where

@@ -2,7 +2,7 @@
 -- divisor, 4 unsigned bytes each; kind 67 two such times, lower first; kind 68 one byte, the refusal number." (Kinds and values: judge, specs/Answers.antt.)
 use Rattle.std.specs.Prelude.{cond, ◌||◌, List, [], ◌∷◌, ◌++◌, ℕ, ◌/◌, ◌%◌, eqb}
 use Rattle.std.proofs.Math.Option.{Option, none, some}
-use Rattle.judge.specs.Answers.{AnswerRecord, answerRecord}
+use Rattle.judge.specs.Answers.{AnswerRecord, answer_record}
 use Rattle.reply.specs.declared.Reply.{Reply}
 use Rattle.reply.specs.declared.Reply.TheVariants.{Silent, Answered}
 
@@ -26,7 +26,7 @@ record_bytes r = r.kind ∷ body_bytes r.kind r.values
 -- the answer record that a reply writes, if it writes one
 abbrev pub reply_record : Reply → Option AnswerRecord
 reply_record Silent = none
-reply_record (Answered a) = some (answerRecord a)
+reply_record (Answered a) = some (answer_record a)
 
 abbrev pub written_for : Option AnswerRecord → List ℕ
 written_for none = []

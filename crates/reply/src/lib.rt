@@ -4,7 +4,7 @@
 ghost use Rattle.std.specs.Prelude.{◌≡◌, ◌+◌, ◌≤◌, length};
 ghost use Rattle.std.proofs.lemmas.List.Edits.{sets};
 ghost use Rattle.judge.specs.declared.Answer.TheVariants.{Judged};
-ghost use Rattle.judge.specs.Answers.{timeNumbers};
+ghost use Rattle.judge.specs.Answers.{time_numbers};
 ghost use Rattle.reply.specs.declared.Reply.TheVariants.{Answered};
 ghost use Rattle.reply.specs.AnswerBytes.{big_endian, body_bytes, reply_bytes};
 
@@ -60,7 +60,7 @@ fn write_number(area: &mut [u8], at: usize, n: u64)
 
 fn write_time(area: &mut [u8], at: usize, time: Time)
     requires { at + 12 ≤ length area.old }
-    ensures { area.new ≡ sets area.old at (body_bytes 66 (timeNumbers time)) }
+    ensures { area.new ≡ sets area.old at (body_bytes 66 (time_numbers time)) }
 {
     write_number(area, at, time.seconds);
     write_number(area, at + 4, time.remainder);

@@ -1,2 +1,4 @@
 pub mod Fields
+pub mod NearSeconds
+pub mod Clamping
 pub mod ApproachSizes

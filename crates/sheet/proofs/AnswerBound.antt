@@ -21,7 +21,7 @@ use Rattle.question.specs.Refusals.{encounter_within, puck_within, delay_acceler
 use Rattle.sensed.specs.Sensed.{sensed_question}
 use Rattle.coded.specs.Coded.{asked, instructed, maintainable, coded_question}
 use Rattle.verdict.specs.Verdicts.{verdict}
-use Rattle.judge.specs.Answers.{checkedAnswer, answer}
+use Rattle.judge.specs.Answers.{checked_answer, answer}
 use Rattle.judge.specs.Demand3.{RightOneSided}
 use Rattle.judge.proofs.Demand3.{one_sided_lem}
 use Rattle.record.specs.declared.Kind.{Kind}
@@ -60,7 +60,7 @@ module _ (x : Encounter) (y : Settings) (z : Question) where
   unfolding answer
   one_sided_size e = go (refusal x y z) refl
     where
-      go : (k : Checked) → refusal x y z ≡ k → size (checkedAnswer k (verdict z (sensed_question x y z))) ≤ 13
+      go : (k : Checked) → refusal x y z ≡ k → size (checked_answer k (verdict z (sensed_question x y z))) ≤ 13
       go Checked.Accepted p = verdict_size (verdict z (sensed_question x y z)) (one_sided_lem x y z p e)
       go (Checked.Refused n) p = omega arith
 

@@ -17,7 +17,7 @@ use Rattle.limits.specs.Limits.{no_limit}
 use Rattle.sensed.specs.Sensed.{sensed_question}
 use Rattle.coded.specs.Coded.{coded_question}
 use Rattle.verdict.specs.Verdicts.{verdict}
-use Rattle.judge.specs.Answers.{answer, answerRecord}
+use Rattle.judge.specs.Answers.{answer, answer_record}
 use Rattle.region.specs.Formula.{Formula, Says}
 use Rattle.region.specs.JudgedRegion.{clear_record, advisory_region}
 
@@ -33,7 +33,7 @@ clear_answer = Answer.Judged clear_verdict
 pub record ClearExactly (x : Encounter) (y : Settings) (z : Question) (region : Formula) : Type 0 where
   pub by_verdict : (verdict z (sensed_question x y z) ≡ clear_verdict) ↔ Says region
   pub by_answer : (answer x y z ≡ clear_answer) ↔ Says region
-  pub by_result : (result : Answer) → answerRecord result ≡ answerRecord (answer x y z) → (answerRecord result ≡ clear_record) ↔ Says region
+  pub by_result : (result : Answer) → answer_record result ≡ answer_record (answer x y z) → (answer_record result ≡ clear_record) ↔ Says region
 
 -- A code without a limit asks a question that the judge accepts, and calls clear exactly in the region of the code's line of Table 1
 pub record CodeClearExactly (x : Encounter) (y : Settings) (code : ℕ) : Type 0 where
