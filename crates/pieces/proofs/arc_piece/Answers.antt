@@ -7,9 +7,6 @@ use Rattle.pieces.proofs.arc_piece.Goals as goal
 pub overflow_mul-result-3 : goal.overflow_mul-result-3
 overflow_mul-result-3 c = let z = c.requires in let after = equal_to c.speed_after_delay-u_d.ensures (read_speed_after c.args.s z) in let f = equal_to c.height_after_delay-height.ensures (read_height c.args.s z) in fits (search coefficients depth 20) tt
 
-pub overflow_mul-result-5 : goal.overflow_mul-result-5
-overflow_mul-result-5 c = let z = c.requires in let after = equal_to c.speed_after_delay-u_d.ensures (read_speed_after c.args.s z) in let f = equal_to c.height_after_delay-height.ensures (read_height c.args.s z) in fits (search coefficients depth 20) tt
-
 pub overflow_mul-result-6 : goal.overflow_mul-result-6
 overflow_mul-result-6 c = let z = c.requires in let after = equal_to c.speed_after_delay-u_d.ensures (read_speed_after c.args.s z) in let f = equal_to c.height_after_delay-height.ensures (read_height c.args.s z) in fits (search coefficients depth 20) tt
 

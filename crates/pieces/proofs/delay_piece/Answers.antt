@@ -3,16 +3,10 @@ use mathlib.Core.Path.{refl, ◌∙◌}
 use mathlib.Core.List.{[], ◌∷◌}
 use Rattle.integers.proofs.Quotation.{quote}
 use Rattle.integers.proofs.Certificates.{ring}
-use Rattle.integers.proofs.Machine.{fits, result}
+use Rattle.integers.proofs.Machine.{result}
 use Rattle.path.specs.Letters.{a, e}
 use Rattle.pieces.proofs.Fields.{coefficients, same_piece}
 use Rattle.pieces.proofs.delay_piece.Goals as goal
-
-pub overflow_sub-result : goal.overflow_sub-result
-overflow_sub-result c = let z = c.requires in fits (search coefficients depth 20) tt
-
-pub overflow_mul-result-3 : goal.overflow_mul-result-3
-overflow_mul-result-3 c = let z = c.requires in fits (search coefficients depth 20) tt
 
 pub returns : goal.returns
 returns c =

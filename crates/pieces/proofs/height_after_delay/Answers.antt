@@ -10,9 +10,6 @@ use Rattle.path.specs.Paths.{delay_height}
 use Rattle.pieces.proofs.Fields.{coefficients}
 use Rattle.pieces.proofs.height_after_delay.Goals as goal
 
-pub overflow_mul-result-2 : goal.overflow_mul-result-2
-overflow_mul-result-2 c = let z = c.requires in fits (search coefficients depth 20) tt
-
 pub overflow_mul-result-4 : goal.overflow_mul-result-4
 overflow_mul-result-4 c = let z = c.requires in fits (search coefficients depth 20) tt
 

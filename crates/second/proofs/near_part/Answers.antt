@@ -1,6 +1,6 @@
 -- `second::near_part` meets its contract: each number fits, and its branches are the definition's cases.
-use mathlib.Core.Path.{◌≡◌, ap₂, ◌∙◌}
-use Prim.Native.Nat.{ℕ}
+use mathlib.Core.Path.{◌≡◌, refl, ap₂, ◌∙◌}
+use Prim.Native.Nat.{ℕ, zero, suc}
 use lib.IntN.{ℤ, pos, ◌+ℤ◌, ◌-ℤ◌}
 use mir.Syntax.{w64}
 use mir.Val.{to_z, of_z}
@@ -8,10 +8,14 @@ use Rattle.integers.specs.Extremes.{max0}
 use Rattle.integers.proofs.Machine.{equal_to, result, plain_call}
 use Rattle.path.specs.Letters.{c, p}
 use Rattle.path.specs.Window.{distance_at}
-use Rattle.flight.specs.inner.Parts.{part_up_to}
+use Rattle.flight.specs.inner.Parts.{part_up_to, near_part}
 use Rattle.second.proofs.Fields.{second_terms, read_ahead}
-use Rattle.second.proofs.NearSeconds.{closing_in}
 use Rattle.second.proofs.near_part.Goals as goal
+
+-- where the intruder closes in, the near part is that of two edges
+closing_in : (p : ℕ) (R : ℤ) (c : ℕ) → ¬ (c ≡ 0) → part_up_to c (max0 (R -ℤ pos p)) (R +ℤ pos p) ≡ near_part c p R
+closing_in p R zero h = absurd (h refl)
+closing_in p R (suc c) h = refl
 
 pub returns : goal.returns
 returns k =
