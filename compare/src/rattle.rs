@@ -1,8 +1,8 @@
 //! The judge's Rattle sources as plain Rust, and every comparison in them, so that a copy with one of
 //! them turned can be built: the toolchain itself builds only what is proved.
 //!
-//! Rattle is Rust but for `ghost` lines and contract clauses, and its structs and enums are copied. A
-//! crate becomes a module of its name; no line moves.
+//! Rattle is Rust but for `ghost` lines, contract clauses and the attribute `tactic`. A crate becomes a
+//! module of its name; no line moves.
 
 use std::fs;
 use std::io;
@@ -37,13 +37,14 @@ const TURNS: [(&str, &str); 6] = [
 ];
 
 /// The crates that `top` reaches, by the lines `name: used used ..` of crates.txt, each once, in the
-/// file's order.
+/// file's order. Where a name is followed by a word, that says what is built of the crate.
 pub fn reached(crates: &str, top: &str) -> Vec<String> {
     let lines: Vec<(&str, Vec<&str>)> = crates
         .lines()
         .filter(|line| !line.starts_with('#'))
         .filter_map(|line| line.split_once(':'))
-        .map(|(name, used)| (name.trim(), used.split_whitespace().collect()))
+        .map(|(name, used)| (name.split_whitespace().next().unwrap_or(""), used))
+        .map(|(name, used)| (name, used.split_whitespace().collect()))
         .collect();
     let mut wanted = vec![top];
     let mut at = 0;
@@ -90,7 +91,7 @@ pub fn modules(root: &Path, top: &str) -> io::Result<Vec<Module>> {
         .collect()
 }
 
-/// The lines of a Rattle file as Rust, ghost lines and clauses blank.
+/// The lines of a Rattle file as Rust, ghost lines, clauses and tactics blank.
 fn as_rust(text: &str, crates: &[String]) -> Result<Vec<String>, String> {
     let mut lines = Vec::new();
     let mut blanking = Blanking::Nothing;
@@ -117,6 +118,8 @@ enum Blanking {
     Nothing,
     /// To the next semicolon.
     Ghost,
+    /// To the next closing bracket.
+    Tactic,
     /// A clause that has opened and not yet closed so many braces.
     Clause(usize, usize),
 }
@@ -125,6 +128,9 @@ impl Blanking {
     fn begun_by(line: &str) -> Blanking {
         match line.split_whitespace().next() {
             Some("ghost") => Blanking::Ghost,
+            Some(word) if word.starts_with("#![tactic(") || word.starts_with("#[tactic(") => {
+                Blanking::Tactic
+            }
             Some("requires" | "ensures" | "invariant" | "decreases") => Blanking::Clause(0, 0),
             _ => Blanking::Nothing,
         }
@@ -133,6 +139,7 @@ impl Blanking {
     fn after(self, line: &str) -> Blanking {
         match self {
             Blanking::Ghost if line.contains(';') => Blanking::Nothing,
+            Blanking::Tactic if line.contains(']') => Blanking::Nothing,
             Blanking::Clause(opened, closed) => {
                 let opened = opened + line.matches('{').count();
                 let closed = closed + line.matches('}').count();
@@ -148,11 +155,6 @@ impl Blanking {
 }
 
 fn adapted(line: &str, crates: &[String]) -> String {
-    let start = line.trim_start();
-    let declared = start.strip_prefix("pub ").unwrap_or(start);
-    if declared.starts_with("struct ") || declared.starts_with("enum ") {
-        return format!("#[derive(Clone, Copy)] {line}");
-    }
     let mut line = line.to_string();
     for name in crates {
         let places: Vec<usize> = line
@@ -249,11 +251,12 @@ mod tests {
 
     #[test]
     fn contracts_are_left_out_and_comparisons_found() {
-        let text = "ghost use A.{_<_};\nuse path::Side;\n// a < b\npub fn f(x: i64) -> bool\n    requires { ⌜ x < 1 ⌝ }\n    \
-                    ensures big { λ r.\n    ⌜ r ≡ x ⌝ }\n{\n    (x < 3) & (x == 1)\n}\nenum E {\n    A,\n}";
+        let text = "#![tactic(auto)]\nghost use A.{◌<◌};\nuse path::Side;\n// a < b\n#[tactic(auto, unfolding(\n    crate::specs::A::b\n))]\n\
+                    pub fn f(x: i64) -> bool\n    requires { x < 1 }\n    ensures big {\n    result ≡ x }\n{\n    (x < 3) & (x == 1)\n}\n\
+                    #[derive(Clone, Copy)]\nenum E {\n    A,\n}";
         let lines = as_rust(text, &["path".to_string()]).unwrap();
-        let wanted = "\nuse crate::path::Side;\n// a < b\npub fn f(x: i64) -> bool\n\n\n\n{\n    (x < 3) & (x == 1)\n}\n\
-                      #[derive(Clone, Copy)] enum E {\n    A,\n}";
+        let wanted = "\n\nuse crate::path::Side;\n// a < b\n\n\n\npub fn f(x: i64) -> bool\n\n\n\n{\n    (x < 3) & (x == 1)\n}\n\
+                      #[derive(Clone, Copy)]\nenum E {\n    A,\n}";
         assert_eq!(lines.join("\n"), wanted);
         let modules = [Module {
             name: "m".into(),
@@ -272,7 +275,7 @@ mod tests {
 
     #[test]
     fn crates_are_reached_through_others() {
-        let crates = "# a comment\na:\nb: a\nc: a\nd: b io\n";
+        let crates = "# a comment\na:\nb: a\nc: a\nd staticlib: b io\n";
         assert_eq!(reached(crates, "d"), ["a", "b", "d"]);
     }
 }

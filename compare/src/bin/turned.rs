@@ -373,7 +373,7 @@ impl Summary {
 }
 
 fn all(root: &Path, numbers: [u64; 2]) -> Result<Summary, String> {
-    let modules = rattle::modules(root, "binding").map_err(|error| error.to_string())?;
+    let modules = rattle::modules(root, "binding_c").map_err(|error| error.to_string())?;
     let folder = root.join("target/compare/turned");
     std::fs::create_dir_all(&folder).map_err(|error| error.to_string())?;
     let (found, took) = tried(&folder, &modules, None, numbers)?;

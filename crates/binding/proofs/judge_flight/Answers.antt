@@ -1,0 +1,24 @@
+-- `binding::judge_flight` meets its contract: the numbers are kept as they are, and the answer's record determines its numbers.
+use mathlib.Core.Path.{ap, ◌∙◌}
+use Rattle.question.specs.declared.Encounter.{Encounter}
+use Rattle.question.specs.declared.Settings.{Settings}
+use Rattle.candidate.specs.declared.OneSidedAdvice.{OneSidedAdvice}
+use Rattle.candidate.specs.FlightAnswers.{flight_answer}
+use Rattle.candidate.proofs.FlightRecords.{flight_determined}
+use Rattle.binding.specs.Flight.{flat_flight}
+use Rattle.binding.specs.declared.FlightResult.{FlightResult}
+use Rattle.binding.proofs.StoredNumbers.{same_result, stored_flight}
+use Rattle.binding.proofs.judge_flight.Goals as goal
+
+pub returns : goal.returns
+returns c =
+    let f = c.ranges in
+    let l = c.args.flight.now in
+    let of : Encounter → Settings → OneSidedAdvice → FlightResult = λ x y z. flat_flight (flight_answer x y z l) in
+    stored_flight f.r f.h f.c f.v f.vi f.p f.k f.e f.sense f.target f.strength f.delay f.limit
+    of
+    (same_result of
+    (c.flat_flight.ensures ∙ ap flat_flight (flight_determined c.judge_flight.result (flight_answer c.plain_encounter-encounter.result c.plain_settings-settings.result c.plain_advice-advice.result l) c.judge_flight.ensures))
+    c.plain_encounter-encounter.ensures
+    c.plain_settings-settings.ensures
+    c.plain_advice-advice.ensures)

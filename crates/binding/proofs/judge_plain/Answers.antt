@@ -1,0 +1,23 @@
+-- `binding::judge_plain` meets its contract: the numbers are kept as they are, and the answer's record determines its numbers.
+use mathlib.Core.Path.{ap, ◌∙◌}
+use Rattle.question.specs.declared.Encounter.{Encounter}
+use Rattle.question.specs.declared.Settings.{Settings}
+use Rattle.question.specs.declared.Question.{Question}
+use Rattle.judge.specs.Answers.{answer}
+use Rattle.judge.proofs.AnswerRecords.{record_determines}
+use Rattle.binding.specs.Flat.{flat_answer}
+use Rattle.binding.specs.declared.JudgeResult.{JudgeResult}
+use Rattle.binding.proofs.StoredNumbers.{same_result, stored_result}
+use Rattle.binding.proofs.judge_plain.Goals as goal
+
+pub returns : goal.returns
+returns c =
+    let f = c.ranges in
+    let of : Encounter → Settings → Question → JudgeResult = λ x y z. flat_answer (answer x y z) in
+    stored_result f.r f.h f.c f.v f.vi f.p f.k f.e f.sides f.sense f.target f.upper_target f.strength f.upper_strength f.delay f.limit
+    of
+    (same_result of
+    (c.flat_answer.ensures ∙ ap flat_answer (record_determines c.judge.result (answer c.plain_encounter-encounter.result c.plain_settings-settings.result c.plain_question-question.result) c.judge.ensures))
+    c.plain_encounter-encounter.ensures
+    c.plain_settings-settings.ensures
+    c.plain_question-question.ensures)
