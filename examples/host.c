@@ -1,5 +1,5 @@
 /* A host in C: judges questions of plain numbers, draws one, judges flights, and answers sheets. `compare/hosts` builds and runs it; by hand, from the repository's root:
- *     rt staticlib binding
+ *     tools/archive
  *     cc -Iinclude -o host examples/host.c target/staticlib/libbinding.a && ./host examples/whole_example.sheet
  */
 #include "lifgorund.h"

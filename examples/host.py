@@ -1,6 +1,6 @@
 """A host in Python: judges questions of plain numbers, draws one, judges flights, and answers sheets. `compare/hosts` builds the shared library and runs it; by hand, from
 the repository's root:
-    rt staticlib binding
+    tools/archive
     cc -shared -o liblifgorund.so -Wl,--whole-archive target/staticlib/libbinding.a -Wl,--no-whole-archive
     python3 examples/host.py ./liblifgorund.so examples/whole_example.sheet
 include/lifgorund.h says what each argument and each field is.

@@ -1,5 +1,5 @@
 //! A host in Rust: judges questions of plain numbers, draws one, judges flights, and answers sheets. `compare/hosts` builds and runs it; by hand, from the repository's root:
-//!     rt staticlib binding
+//!     tools/archive
 //!     rustc -L native=target/staticlib -o host examples/host.rs && ./host examples/whole_example.sheet
 //! include/lifgorund.h says what each argument and each field is.
 

@@ -1,6 +1,6 @@
 /* Lifgorund: the judge of vertical collision-avoidance advisories, for programs in C and C++.
  *
- * Link target/staticlib/libbinding.a, which `rt staticlib binding` proves and builds (x86-64 Linux). It needs no other library.
+ * Link target/staticlib/libbinding.a, which `tools/archive` proves and builds (x86-64 Linux). It needs no other library.
  * README.md says what a verdict means and how a sheet is written; examples/ has hosts in C, Rust and Python.
  *
  * Every function ends for every input, keeps no state, allocates nothing and calls nothing of the host, so any number of threads may

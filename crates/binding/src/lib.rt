@@ -1,4 +1,4 @@
-// The judge for programs in C and Rust, built by `rt staticlib binding`. Numbers pass as themselves, results as structs of numbers.
+// The judge's entries as functions of plain numbers: numbers pass as themselves, results as structs of numbers. `binding_c` exports them to C and Rust.
 #![tactic(auto)]
 
 ghost use Rattle.std.specs.Prelude.{◌≡◌, length};
@@ -130,8 +130,7 @@ fn plain_question(
 }
 
 // Judges sixteen plain numbers, any 64-bit values.
-#[unsafe(no_mangle)]
-pub extern "C" fn judge_plain(
+pub fn judge_plain(
     r: i64,
     h: i64,
     c: i64,
@@ -190,8 +189,7 @@ fn flat_outcome(outcome: Outcome) -> SheetResult
 }
 
 // Answers any sheet into any area.
-#[unsafe(no_mangle)]
-pub extern "C" fn answer_sheet_bytes(sheet: &[u8], area: &mut [u8]) -> SheetResult
+pub fn answer_sheet_bytes(sheet: &[u8], area: &mut [u8]) -> SheetResult
     ensures { (result ≡ flat_outcome (outcome sheet.now (length area.old))) × (area.new ≡ area_after sheet.now area.old) }
 {
     flat_outcome(answer_sheet(sheet, area))
@@ -299,8 +297,7 @@ fn flat_drawing(drawing: Drawing) -> DrawingResult
 }
 
 // Draws the lower path of sixteen plain numbers, any 64-bit values.
-#[unsafe(no_mangle)]
-pub extern "C" fn screen_drawing(
+pub fn screen_drawing(
     r: i64,
     h: i64,
     c: i64,
@@ -362,8 +359,7 @@ fn flat_point(answer: PointAnswer) -> PointResult
 }
 
 // The screen point of sixteen plain numbers at a second, any 64-bit values.
-#[unsafe(no_mangle)]
-pub extern "C" fn screen_point(
+pub fn screen_point(
     r: i64,
     h: i64,
     c: i64,
@@ -465,8 +461,7 @@ fn plain_advice(sense: i64, target: i64, strength: i64, delay: i64, limit: i64) 
 }
 
 // Judges a candidate's flight: thirteen plain numbers, any 64-bit values, and the flight's numbers, pairs of acceleration and seconds, as many as there are.
-#[unsafe(no_mangle)]
-pub extern "C" fn judge_flight(
+pub fn judge_flight(
     r: i64,
     h: i64,
     c: i64,

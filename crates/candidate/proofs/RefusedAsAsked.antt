@@ -6,7 +6,7 @@ use mathlib.Core.List.{List, [], ◌∷◌}
 use Prim.Native.Nat.{ℕ}
 use native.Mathlib.Omega.{arith}
 use lib.IntN.{ℤ}
-use Rattle.limits.specs.Limits.{target_within, strength_within, delay_within}
+use Rattle.limits.specs.Limits.{target_within, strength_within}
 use Rattle.question.specs.declared.Encounter.{Encounter}
 use Rattle.question.specs.declared.Settings.{Settings}
 use Rattle.question.specs.declared.Checked.{Checked}
@@ -24,7 +24,7 @@ not_asked false = refl
 module _ (x : Encounter) (y : Settings) (z : OneSidedAdvice) where
   pub refused_as_asked : refusal x y (asked z) ≡ first_refusal (advice_checks x y z)
   unfolding refusal
-  refused_as_asked = simp (not_asked (target_within z.target), not_asked (strength_within z.strength), not_asked (delay_within z.delay))
+  refused_as_asked = simp (not_asked (target_within z.target), not_asked (strength_within z.strength))
 
   module _ (l : List ℤ) where
     -- a refused advice keeps its number, whatever the flight

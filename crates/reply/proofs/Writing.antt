@@ -17,6 +17,16 @@ sets_append d at (x ∷ xs) ys = sets_append (set d at x) (suc at) xs ys ∙ ap 
 pub two_stores : (d : List ℕ) (w a b : ℕ) → set (set d w a) (w + 1) b ≡ sets d w (a ∷ b ∷ [])
 two_stores d w a b = sym (sets_append d w (a ∷ []) (b ∷ []))
 
+pub four_stores : (d : List ℕ) (w a b c e : ℕ) → set (set (set (set d w a) (w + 1) b) (w + 2) c) (w + 3) e ≡ sets d w (a ∷ b ∷ c ∷ e ∷ [])
+four_stores d w a b c e =
+    ap (λ (l : List ℕ). set (set l (w + 2) c) (w + 3) e) (two_stores d w a b)
+    ∙ ap (λ (l : List ℕ). set l (w + 3) e) (sym (sets_append d w (a ∷ b ∷ []) (c ∷ [])))
+    ∙ sym (sets_append d w (a ∷ b ∷ c ∷ []) (e ∷ []))
+
+-- a byte, then a run
+pub one_then : (d : List ℕ) (w a : ℕ) (xs : List ℕ) → sets (set d w a) (w + 1) xs ≡ sets d w (a ∷ xs)
+one_then d w a xs = sym (sets_append d w (a ∷ []) xs)
+
 -- a run stored from the start on, and the rest of the area
 pub stored_first : (bytes area : List ℕ) → length bytes ≤ length area → sets area 0 bytes ≡ bytes ++ drop (length bytes) area
 stored_first bytes area h = sets-eq bytes area 0 (omega arith) ∙ ap (λ (n : ℕ). bytes ++ drop n area) (zero-add (length bytes))

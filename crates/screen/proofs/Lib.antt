@@ -1,4 +1,5 @@
 pub mod WholeFloats
 pub mod Evaluation
+pub mod StoredNumbers
 pub mod PointChecks
 pub mod DrawnPath

@@ -5,9 +5,9 @@ use mathlib.Core.Bool.{Bool, true, false, cond, ◌&&◌, beq}
 use Prim.Native.Nat.{ℕ, zero, suc, ◌+◌, ◌-◌, ◌*◌, ◌^◌, ◌≤◌, ◌<◌}
 use native.Mathlib.Nat.{mul-one, mul_assoc, mul_comm, mul-pos, mul-mul-mul_comm, add-mul, zero-mul, mul-zero, mul-sub, mul-lt-mul_of_pos_right, mul-le-mul_right}
 use native.Mathlib.Omega.{arith}
-use lib.Dec.{T, ltb, lit≤}
+use lib.Dec.{T, ltb, lit≤, le→leb, lt→ltb}
 use lib.IntN.{ℤ, pos, negsuc, neg_ℤ, nat_abs, ◌+ℤ◌, ◌*ℤ◌, neg_ℤ-+ℤ, +ℤ_comm}
-use lib.Ieee.{Float, nan, inf, fin, binary64, up, down, unlike, round, mul, add, sum, of_int, fits}
+use lib.Ieee.{Float, nan, inf, fin, binary64, up, down, unlike, round, mul, add, sum, of_int, in_float, fits}
 use lib.Ieee.Exact.{HasValue}
 use lib.Ieee.Fits.{down_pos, add-fits, of_int-fits}
 use lib.Ieee.Back.{round_whole, whole_unique}
@@ -147,6 +147,11 @@ float_exact (negsuc n) h = record { sign = true; size = suc n; value = round_who
 pub float_zero : float (pos 0) ≡ fin false 0 (pos 0)
 unfolding of_int
 float_zero = refl
+
+pub cast_exact : (z : ℤ) → nat_abs z ≤ 2 ^ 53 → T (in_float binary64 z)
+unfolding in_float
+cast_exact (pos n) h = le→leb n (2 ^ 53) h
+cast_exact (negsuc n) h = lt→ltb n (2 ^ 53) h
 
 pub product_exact : {x y : Float} {z w : ℤ} → Exactly x z → Exactly y w → nat_abs z * nat_abs w ≤ 2 ^ 53 → Exactly (mul binary64 x y) (z *ℤ w)
 product_exact {x} {y} p q h = record {

@@ -1,4 +1,4 @@
--- The sizes of what `crosses_in_second` hands on, and that its test is that of the unclamped edges. Assumes nothing.
+-- The sizes of what `crosses_in_second` hands on, and that its test is that of the unclamped edges.
 use mathlib.Core.Path.{◌≡◌, sym, ap₂}
 use mathlib.Core.Bool.{Bool, ◌&&◌}
 use Prim.Native.Nat.{ℕ, ◌+◌, ◌*◌, ◌<◌}

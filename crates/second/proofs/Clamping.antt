@@ -1,4 +1,4 @@
--- What `clamped` is, by the code's cases. Assumes nothing.
+-- What `clamped` is, by the code's cases.
 use mathlib.Core.Path.{◌≡◌, sym, ap, ◌∙◌}
 use mathlib.Core.List.{[], ◌∷◌}
 use Prim.Native.Nat.{ℕ}

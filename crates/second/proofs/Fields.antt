@@ -1,4 +1,4 @@
--- The bounds of a second's numbers, as rules for `search`. Assumes nothing.
+-- The bounds of a second's numbers, as rules for `search`.
 use mathlib.Core.Path.{◌≡◌, ap, ap₂}
 use mathlib.Core.Bool.{Bool, true, ◌&&◌, ◌||◌}
 use Prim.Native.Nat.{ℕ, ◌≤◌}

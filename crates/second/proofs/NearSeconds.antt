@@ -1,4 +1,4 @@
--- The part of a second in which the intruder is near, by the code's cases. Assumes nothing.
+-- The part of a second in which the intruder is near, by the code's cases.
 use mathlib.Core.Path.{◌≡◌, refl, sym, ap, ◌∙◌}
 use mathlib.Core.Bool.{cond}
 use Prim.Native.Nat.{ℕ, zero, suc, ◌<◌, ◌≤◌}

@@ -1,0 +1,176 @@
+// The judge for programs in C and Rust: a static library, built by `tools/archive`. Each export is `binding`'s function of the same name, with the same promise.
+#![tactic(auto)]
+
+ghost use Rattle.std.specs.Prelude.{◌≡◌, length};
+ghost use Rattle.judge.specs.Answers.{answer};
+ghost use Rattle.sheet.specs.WholeSheet.{outcome, area_after};
+ghost use Rattle.candidate.specs.FlightAnswers.{flight_answer};
+ghost use Rattle.screen.specs.Drawings.{screen_drawing};
+ghost use Rattle.screen.specs.Points.{screen_point};
+ghost use Rattle.binding.specs.PlainNumbers.{plain_encounter, plain_settings, plain_question, plain_advice};
+ghost use Rattle.binding.specs.Flat.{flat_answer, flat_outcome};
+ghost use Rattle.binding.specs.Flight.{flat_flight};
+ghost use Rattle.binding.specs.Screen.{flat_content, flat_point};
+
+use binding::{DrawingResult, FlightResult, JudgeResult, PointResult, SheetResult};
+
+// Judges sixteen plain numbers, any 64-bit values.
+#[unsafe(no_mangle)]
+pub extern "C" fn judge_plain(
+    r: i64,
+    h: i64,
+    c: i64,
+    v: i64,
+    vi: i64,
+    p: i64,
+    k: i64,
+    e: i64,
+    sides: i64,
+    sense: i64,
+    target: i64,
+    upper_target: i64,
+    strength: i64,
+    upper_strength: i64,
+    delay: i64,
+    limit: i64,
+) -> JudgeResult
+    ensures { result ≡ flat_answer (answer (plain_encounter r h c v vi) (plain_settings p k e) (plain_question sides sense target upper_target strength upper_strength delay limit)) }
+{
+    binding::judge_plain(
+        r,
+        h,
+        c,
+        v,
+        vi,
+        p,
+        k,
+        e,
+        sides,
+        sense,
+        target,
+        upper_target,
+        strength,
+        upper_strength,
+        delay,
+        limit,
+    )
+}
+
+// Answers any sheet into any area.
+#[unsafe(no_mangle)]
+pub extern "C" fn answer_sheet_bytes(sheet: &[u8], area: &mut [u8]) -> SheetResult
+    ensures { (result ≡ flat_outcome (outcome sheet.now (length area.old))) × (area.new ≡ area_after sheet.now area.old) }
+{
+    binding::answer_sheet_bytes(sheet, area)
+}
+
+// Draws the lower path of sixteen plain numbers, any 64-bit values.
+#[unsafe(no_mangle)]
+pub extern "C" fn screen_drawing(
+    r: i64,
+    h: i64,
+    c: i64,
+    v: i64,
+    vi: i64,
+    p: i64,
+    k: i64,
+    e: i64,
+    sides: i64,
+    sense: i64,
+    target: i64,
+    upper_target: i64,
+    strength: i64,
+    upper_strength: i64,
+    delay: i64,
+    limit: i64,
+) -> DrawingResult
+    ensures { result ≡ flat_content (screen_drawing (plain_encounter r h c v vi) (plain_settings p k e) (plain_question sides sense target upper_target strength upper_strength delay limit)) }
+{
+    binding::screen_drawing(
+        r,
+        h,
+        c,
+        v,
+        vi,
+        p,
+        k,
+        e,
+        sides,
+        sense,
+        target,
+        upper_target,
+        strength,
+        upper_strength,
+        delay,
+        limit,
+    )
+}
+
+// The screen point of sixteen plain numbers at a second, any 64-bit values.
+#[unsafe(no_mangle)]
+pub extern "C" fn screen_point(
+    r: i64,
+    h: i64,
+    c: i64,
+    v: i64,
+    vi: i64,
+    p: i64,
+    k: i64,
+    e: i64,
+    sides: i64,
+    sense: i64,
+    target: i64,
+    upper_target: i64,
+    strength: i64,
+    upper_strength: i64,
+    delay: i64,
+    limit: i64,
+    second: u64,
+) -> PointResult
+    ensures { result ≡ flat_point (screen_point (plain_encounter r h c v vi) (plain_settings p k e) (plain_question sides sense target upper_target strength upper_strength delay limit) second) }
+{
+    binding::screen_point(
+        r,
+        h,
+        c,
+        v,
+        vi,
+        p,
+        k,
+        e,
+        sides,
+        sense,
+        target,
+        upper_target,
+        strength,
+        upper_strength,
+        delay,
+        limit,
+        second,
+    )
+}
+
+// Judges a candidate's flight: thirteen plain numbers, any 64-bit values, and the flight's numbers, pairs of acceleration and seconds, as many as there are.
+#[unsafe(no_mangle)]
+pub extern "C" fn judge_flight(
+    r: i64,
+    h: i64,
+    c: i64,
+    v: i64,
+    vi: i64,
+    p: i64,
+    k: i64,
+    e: i64,
+    sense: i64,
+    target: i64,
+    strength: i64,
+    delay: i64,
+    limit: i64,
+    flight: &[i64],
+) -> FlightResult
+    ensures { result ≡ flat_flight (flight_answer (plain_encounter r h c v vi) (plain_settings p k e) (plain_advice sense target strength delay limit) flight.now) }
+{
+    binding::judge_flight(
+        r, h, c, v, vi, p, k, e, sense, target, strength, delay, limit, flight,
+    )
+}

@@ -1,0 +1,16 @@
+-- `second::tops` meets its contract: each product fits, and the joined tests are the definition's.
+use Rattle.integers.proofs.Machine.{fits, plain}
+use Rattle.second.proofs.Fields.{second_terms}
+use Rattle.second.proofs.tops.Goals as goal
+
+pub overflow_add-result : goal.overflow_add-result
+overflow_add-result c = let z = c.requires.approach_sizes in let h = c.requires.in_reach in fits (search second_terms depth 20) tt
+
+pub overflow_mul-result-4 : goal.overflow_mul-result-4
+overflow_mul-result-4 c = let z = c.requires.approach_sizes in let h = c.requires.in_reach in fits (search second_terms depth 20) tt
+
+pub overflow_add-result-2 : goal.overflow_add-result-2
+overflow_add-result-2 c = let z = c.requires.approach_sizes in let h = c.requires.in_reach in fits (search second_terms depth 20) tt
+
+pub returns : goal.returns
+returns c = let z = c.requires.approach_sizes in let h = c.requires.in_reach in plain (search second_terms depth 20) tt
