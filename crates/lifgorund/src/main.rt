@@ -1,16 +1,27 @@
 // The program: a question sheet from standard input, its answer to standard output. The rooms and what is written are `program`'s.
 #![tactic(auto)]
 
+ghost use Rattle.std.specs.Prelude.{OnOk, IfSome};
+ghost use Rattle.std.specs.Io.KnownBytes.{Appends};
+ghost use Rattle.program.specs.Output.{program_output};
+
 use program::{program_output, read_room};
 use reading::read_full;
 use std::io;
+use std::io::{Read, Write};
+
+// Writes the answer to the sheet that the input is. Of an input longer than a sheet may be, what is past the room is left.
+fn answer_input<R: Read, W: Write>(input: &mut R, output: &mut W) -> io::Result<()>
+    ensures { OnOk result (IfSome (R.remaining input.old) (λ sheet. Appends (W.contents output.old) (W.contents output.new) (program_output sheet))) }
+{
+    let mut sheet = read_room();
+    let read = read_full(input, &mut sheet)?;
+    let answer = program_output(&sheet[..read]);
+    let area = answer.area;
+    let length = answer.length;
+    output.write_all(&area[..length])
+}
 
 fn main(rt: HostRuntime) -> io::Result<()> {
-    let mut sheet = read_room();
-    let mut input = rt.stdin();
-    let read = read_full(&mut input, &mut sheet)?;
-    let output = program_output(&sheet[..read]);
-    let area = output.area;
-    let length = output.length;
-    rt.write_all(&area[..length])
+    answer_input(&mut rt.stdin(), &mut rt.stdout())
 }

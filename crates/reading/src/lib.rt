@@ -1,29 +1,21 @@
 // What the programs read: their arguments, and files or standard input, into rooms that they lend. Nothing here allocates.
 #![tactic(auto)]
 
-ghost use Rattle.std.specs.Prelude.{◌≡◌, ◌<◌, ◌≤◌, length, take, IfOk};
-ghost use Rattle.std.specs.Io.KnownBytes.{Consumes, IsAtEnd};
+ghost use Rattle.std.specs.Prelude.{◌≡◌, ◌≤◌, length, take, IfOk, IfSome};
+ghost use Rattle.std.specs.Io.KnownBytes.{Consumes};
 
 use std::env::FillError;
 use std::io::Read;
 use std::rt::{Env, Files};
 use std::{fs, io, str};
 
-// As long as the longest name of a file.
-const NAME_ROOM: usize = 4096;
-
-// Room for an argument.
-pub fn name_room() -> [u8; NAME_ROOM]
-    ensures { length result ≡ 4096 }
-{
-    [0u8; NAME_ROOM]
-}
+// As long as the longest name of a file: a room for an argument.
+pub const NAME_ROOM: usize = 4096;
 
 // How many arguments there are, the program's own name among them.
 pub fn argument_count<E: Env>(env: &E) -> usize {
-    let mut name = name_room();
     for k in 0..usize::MAX {
-        match env.arg(k, &mut name) {
+        match env.arg(k, &mut []) {
             Err(FillError::NotPresent) => return k,
             Ok(_) | Err(FillError::TooLong) => {}
         }
@@ -57,11 +49,11 @@ pub fn say_unread<E: Eprint>(to: &E, name: &[u8], error: io::Error) -> io::Resul
     }
 }
 
-// Reads until the room is full or the input ends, and returns how many bytes it put at the room's start. On a room of no bytes it reads nothing.
+// Reads until the room is full or the input ends, and returns how many bytes it put at the room's start: the input's first, as many as the room has.
 pub fn read_full<R: Read>(reader: &mut R, room: &mut [u8]) -> io::Result<usize>
     ensures within { IfOk result (λ n. (n ≤ length room.new) × (n ≡ length (take n room.new))) }
-    ensures consumed { IfOk result (λ n. Consumes (R.remaining reader.old) (R.remaining reader.new) (take n room.new)) }
-    ensures whole { IfOk result (λ n. n < length room.new → IsAtEnd (R.remaining reader.new)) }
+    ensures bytes { IfOk result (λ n. IfSome (R.remaining reader.old) (λ input. take n room.new ≡ take (length room.new) input)) }
+    ensures rest { IfOk result (λ n. Consumes (R.remaining reader.old) (R.remaining reader.new) (take n room.new)) }
 {
     let mut at = 0;
     while at < room.len() {
@@ -72,4 +64,91 @@ pub fn read_full<R: Read>(reader: &mut R, room: &mut [u8]) -> io::Result<usize>
         at += n;
     }
     Ok(at)
+}
+
+#[cfg(test)]
+mod tests {
+    use super::*;
+
+    // Three arguments, the last longer than four bytes.
+    struct Given {}
+
+    impl Env for Given {
+        fn arg(&self, i: usize, buf: &mut [u8]) -> Result<usize, FillError> {
+            let words: [&[u8]; 3] = [b"name", b"", b"longer"];
+            match words.get(i) {
+                Some(word) => put(word, buf),
+                None => Err(FillError::NotPresent),
+            }
+        }
+
+        fn var(&self, _name: &str, _buf: &mut [u8]) -> Result<usize, FillError> {
+            Err(FillError::NotPresent)
+        }
+
+        fn var_at(&self, _i: usize, _buf: &mut [u8]) -> Result<usize, FillError> {
+            Err(FillError::NotPresent)
+        }
+    }
+
+    fn put(word: &[u8], buf: &mut [u8]) -> Result<usize, FillError>
+        ensures { IfOk result (λ n. (n ≤ length buf.new) × (n ≡ length (take n buf.new))) }
+    {
+        if buf.len() < word.len() {
+            return Err(FillError::TooLong);
+        }
+        buf[..word.len()].copy_from_slice(word);
+        Ok(word.len())
+    }
+
+    // Gives one byte a read, and fails at the end.
+    #[derive(Drop)]
+    struct Failing {
+        left: u8,
+    }
+
+    impl Read for Failing {
+        fn read(&mut self, buf: &mut [u8]) -> io::Result<usize> {
+            if self.left == 0 {
+                return Err(io::Error::from(io::ErrorKind::Other));
+            }
+            if buf.is_empty() {
+                return Ok(0);
+            }
+            buf[0] = self.left;
+            self.left -= 1;
+            Ok(1)
+        }
+    }
+
+    #[test]
+    fn arguments_are_counted(rt: HostRuntime) {
+        let mut room = [0u8; 4];
+        assert_eq!(rt; argument_count(&Given {}), 3);
+        assert_eq!(rt; argument(&Given {}, 0, &mut room), 4);
+        assert!(rt; room == *b"name");
+        for k in 1..4 {
+            assert_eq!(rt; argument(&Given {}, k, &mut room), 0, "argument {k}");
+        }
+    }
+
+    #[test]
+    fn input_is_cut_at_the_room(rt: HostRuntime) {
+        let mut room = [0u8; 4];
+        let mut long: &[u8] = b"longer";
+        assert!(rt; matches!(read_full(&mut long, &mut room), Ok(4)));
+        assert!(rt; room == *b"long");
+        let mut short: &[u8] = b"ab";
+        assert!(rt; matches!(read_full(&mut short, &mut room), Ok(2)));
+        assert!(rt; room == *b"abng");
+    }
+
+    #[test]
+    fn failed_read_is_no_end(rt: HostRuntime) {
+        let mut room = [0u8; 4];
+        let mut failing = Failing { left: 6 };
+        assert!(rt; matches!(read_full(&mut failing, &mut room), Ok(4)));
+        assert!(rt; room == [6, 5, 4, 3]);
+        assert!(rt; read_full(&mut failing, &mut room).is_err());
+    }
 }

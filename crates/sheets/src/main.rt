@@ -4,7 +4,7 @@
 #![tactic(auto)]
 
 use program::{program_output, read_room};
-use reading::{argument, argument_count, name_room, open_named, read_full, say_unread};
+use reading::{NAME_ROOM, argument, argument_count, open_named, read_full, say_unread};
 use std::io;
 use std::io::Read;
 use std::rt::{Env, Files};
@@ -32,7 +32,7 @@ fn answer_file<P: Print, R: Read>(out: &P, file: &mut R) -> io::Result<()> {
 }
 
 fn answer_argument<R: Print + Eprint + Files + Env>(rt: &R, k: usize) -> io::Result<()> {
-    let mut name = name_room();
+    let mut name = [0u8; NAME_ROOM];
     let length = argument(rt, k, &mut name);
     match open_named(rt, &name[..length]) {
         Ok(mut file) => {

@@ -9,7 +9,7 @@ ghost use Rattle.std.specs.Prelude.{◌≡◌, ◌+◌, ◌≤◌, length, take}
 use coded::{CodedQuestion, coded_question};
 use judge::{Answer, judge, sides_number};
 use question::{Encounter, Question, Settings};
-use reading::{argument, argument_count, name_room, open_named, read_full};
+use reading::{NAME_ROOM, argument, argument_count, open_named, read_full};
 use record::word_at;
 use std::io;
 use std::io::Read;
@@ -289,7 +289,7 @@ fn report_file<P: Print, R: Read>(out: &P, file: &mut R) -> io::Result<()> {
 }
 
 fn report_argument<R: Print + Files + Env>(rt: &R, k: usize) -> io::Result<()> {
-    let mut name = name_room();
+    let mut name = [0u8; NAME_ROOM];
     let length = argument(rt, k, &mut name);
     rt.write_all(&name[..length])?;
     match open_named(rt, &name[..length]) {

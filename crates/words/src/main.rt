@@ -11,7 +11,7 @@ use instant::Time;
 use judge::Answer;
 use limits::NO_LIMIT;
 use question::{Checked, Encounter, Question};
-use reading::{argument, argument_count, name_room, open_named, read_full, say_unread};
+use reading::{NAME_ROOM, argument, argument_count, open_named, read_full, say_unread};
 use record::{Record, check_sheet, next_at, record_at};
 use reply::Reply;
 use std::io;
@@ -546,7 +546,7 @@ fn is_standard_input(name: &[u8]) -> bool {
 }
 
 fn answer_argument<R: Print + Eprint + Input + Files + Env>(rt: &R, k: usize) -> io::Result<()> {
-    let mut name = name_room();
+    let mut name = [0u8; NAME_ROOM];
     let length = argument(rt, k, &mut name);
     if is_standard_input(&name[..length]) {
         let mut input = rt.reader();

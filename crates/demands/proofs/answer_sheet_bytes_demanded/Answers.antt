@@ -9,6 +9,5 @@ use Rattle.demands.proofs.answer_sheet_bytes_demanded.Goals as goal
 
 pub returns : goal.returns
 returns c =
-    let a = c.args in
-    let held = ap outcome_in c.answer_sheet_bytes.ensures.0 ∙ outcome_held a.sheet.now (length a.area.now) in
-    answered_by a.sheet.now a.area.now _ (outcome_in c.answer_sheet_bytes.result) (ap outcome_record held) c.answer_sheet_bytes.ensures.1
+    let held = ap outcome_in c.answer_sheet_bytes.ensures.0 ∙ outcome_held c.args.sheet.now (length c.args.area.now) in
+    answered_by c.args.sheet.now c.args.area.now _ (outcome_in c.answer_sheet_bytes.result) (ap outcome_record held) c.answer_sheet_bytes.ensures.1

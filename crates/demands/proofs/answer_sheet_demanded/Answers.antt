@@ -3,4 +3,5 @@ use Rattle.demands.proofs.SheetAnswers.{answered_by}
 use Rattle.demands.proofs.answer_sheet_demanded.Goals as goal
 
 pub returns : goal.returns
-returns c = answered_by c.args.sheet.now c.args.area.now _ c.answer_sheet.result c.answer_sheet.ensures.0 c.answer_sheet.ensures.1
+returns c =
+    answered_by c.args.sheet.now c.args.area.now _ c.answer_sheet.result c.answer_sheet.ensures.0 c.answer_sheet.ensures.1

@@ -8,7 +8,8 @@ use Rattle.demands.proofs.exported_flight_demanded.Goals as goal
 pub returns : goal.returns
 returns c =
     let f = c.ranges in
-    rightly_exported _ _ _ c.args.flight.now c.judge_flight.result
+    let l = c.args.flight.now in
+    rightly_exported _ _ _ l c.judge_flight.result
     (stored_flight f.r f.h f.c f.v f.vi f.p f.k f.e f.sense f.target f.strength f.delay f.limit
-    (λ x y z. flat_flight (flight_answer x y z c.args.flight.now))
+    (λ x y z. flat_flight (flight_answer x y z l))
     c.judge_flight.ensures)

@@ -3,4 +3,4 @@ use Rattle.demands.proofs.FlightsRight.{rightly}
 use Rattle.demands.proofs.flight_demanded.Goals as goal
 
 pub returns : goal.returns
-returns c = rightly c.args.encounter c.args.settings c.args.advice c.args.flight.now c.judge_flight.result c.judge_flight.ensures
+returns c = let a = c.args in rightly a.encounter a.settings a.advice a.flight.now c.judge_flight.result c.judge_flight.ensures

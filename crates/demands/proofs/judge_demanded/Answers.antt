@@ -3,4 +3,4 @@ use Rattle.demands.proofs.PlainAnswers.{rightly}
 use Rattle.demands.proofs.judge_demanded.Goals as goal
 
 pub returns : goal.returns
-returns c = rightly c.args.encounter c.args.settings c.args.question c.judge.result c.judge.ensures
+returns c = let a = c.args in rightly a.encounter a.settings a.question c.judge.result c.judge.ensures
