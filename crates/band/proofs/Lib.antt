@@ -1,4 +1,5 @@
 pub mod RuleOrder
+pub mod PathsInOrder
 pub mod PathOrder
 pub mod WindowBetween
 pub mod Meeting
