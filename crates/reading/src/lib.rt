@@ -1,7 +1,7 @@
 // What the programs read: their arguments, and files or standard input, into rooms that they lend. Nothing here allocates.
 #![tactic(auto)]
 
-ghost use Rattle.std.specs.Prelude.{◌≡◌, ◌≤◌, length, take, IfOk, IfSome};
+ghost use Rattle.std.specs.Prelude.{◌≡◌, ◌≤◌, length, take, IfOk, IfSome, IsUtf8};
 ghost use Rattle.std.specs.Io.KnownBytes.{Consumes};
 
 use std::env::FillError;
@@ -34,7 +34,9 @@ pub fn argument<E: Env>(env: &E, k: usize, room: &mut [u8]) -> usize
 }
 
 // Opens the file of that name for reading. A name that is no text is no file's here.
-pub fn open_named<F: Files>(files: &F, name: &[u8]) -> io::Result<F::File> {
+pub fn open_named<F: Files>(files: &F, name: &[u8]) -> io::Result<F::File>
+    ensures { IfOk result (λ file. IsUtf8 name.now) }
+{
     match str::from_utf8(name) {
         Ok(text) => fs::open(files, text),
         Err(_) => Err(io::Error::from(io::ErrorKind::InvalidFilename)),
