@@ -1,5 +1,5 @@
 -- Table 1 of the article: the advisories and their modelling variables.
-use Rattle.std.specs.Prelude.{◌≡◌, List, [], ◌∷◌, ℕ, zero, suc, ◌/◌}
+use Rattle.std.specs.Prelude.{◌≡◌, List, [], ◌∷◌, ℕ, zero, suc, ◌/◌, Err}
 use Rattle.std.proofs.Math.Option.{Option, none, map}
 use Prim.Native.String.{String}
 use Rattle.std.proofs.Math.ListN.{get_elem?}
@@ -10,9 +10,8 @@ use Rattle.advisory.specs.declared.Sense.{Sense}
 use Rattle.advisory.specs.declared.Sense.TheVariants.{Climb, Descend}
 use Rattle.advisory.specs.declared.Target.{Target}
 use Rattle.advisory.specs.declared.Target.TheVariants.{Current}
-use Rattle.advisory.specs.declared.Listing.{Listing}
 use Rattle.advisory.specs.declared.Instruction.{Instruction}
-use Rattle.advisory.specs.declared.Advised.{Advised}
+use Rattle.advisory.specs.declared.CodeError.{CodeError}
 
 -- "The course takes g as 1,932 grains/s²."
 abbrev pub g : ℕ
@@ -75,7 +74,7 @@ printed_at code = map printed (table1_at code)
 
 -- "Codes 17 (COC) and 18 (MTLO) .. are in neither table": neither sense and target, nor strength and delay, here or in the article.
 pub record InNeitherTable (code : ℕ) : Type 0 where
-  pub not_listed : catalogue_of code ≡ Listing.NotJudged
+  pub not_listed : catalogue_of code ≡ Err CodeError.NotJudged
   pub no_row : rows_with reaction_table code ≡ 0
   pub not_in_table_1 : table1_at code ≡ none
-  pub not_judged_lem : advised_of code ≡ Advised.NotJudged
+  pub not_judged_lem : advised_of code ≡ Err CodeError.NotJudged

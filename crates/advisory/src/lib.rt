@@ -106,17 +106,17 @@ fn target_of(code: u8) -> Target
 }
 
 // The article's codes, the codes that are named but not judged, and the unknown ones.
-pub fn catalogue(code: u8) -> Listing
+pub fn catalogue(code: u8) -> Result<Advice, CodeError>
     ensures { result ≡ catalogue_of code }
 {
     match code {
         1..=16 => {
             let sense = sense_of_code(code);
             let target = target_of(code);
-            Listing::Article(Advice { sense, target })
+            Ok(Advice { sense, target })
         }
-        17..=18 => Listing::NotJudged,
-        _ => Listing::Unknown,
+        17..=18 => Err(CodeError::NotJudged),
+        _ => Err(CodeError::Unknown),
     }
 }
 
@@ -207,51 +207,51 @@ const REACTION_TABLE: [Reaction; ROWS] = [
 ];
 
 // The row at a place, counted from 0; no row from the table's end on.
-pub fn reaction_row(place: usize) -> Reacted
+pub fn reaction_row(place: usize) -> Option<Reaction>
     ensures { result ≡ row_at reaction_table place }
 {
     if place < ROWS {
         let row = REACTION_TABLE[place];
-        Reacted::Row(row)
+        Some(row)
     } else {
-        Reacted::Missing
+        None
     }
 }
 
 // The first row with this code.
-pub fn reaction_to(code: u8) -> Reacted
+pub fn reaction_to(code: u8) -> Option<Reaction>
     ensures { result ≡ row_of reaction_table code }
 {
     for place in 0..ROWS {
-        let Reacted::Row(row) = reaction_row(place) else {
-            return Reacted::Missing;
+        let Some(row) = reaction_row(place) else {
+            return None;
         };
         if row.code == code {
-            return Reacted::Row(row);
+            return Some(row);
         }
     }
-    Reacted::Missing
+    None
 }
 
 // Sense, target, strength and delay of a judged code. Each article code has its row, so a row is never missing here.
-pub fn advise(code: u8) -> Advised
+pub fn advise(code: u8) -> Result<Instruction, CodeError>
     ensures { result ≡ advised_of code }
 {
     match catalogue(code) {
-        Listing::Article(advice) => match reaction_to(code) {
-            Reacted::Row(row) => {
+        Ok(advice) => match reaction_to(code) {
+            Some(row) => {
                 let sense = advice.sense;
                 let target = advice.target;
-                Advised::Judged(Instruction {
+                Ok(Instruction {
                     sense,
                     target,
                     strength: row.strength,
                     delay: row.delay,
                 })
             }
-            Reacted::Missing => Advised::Unknown,
+            None => Err(CodeError::Unknown),
         },
-        Listing::NotJudged => Advised::NotJudged,
-        Listing::Unknown => Advised::Unknown,
+        Err(CodeError::NotJudged) => Err(CodeError::NotJudged),
+        Err(CodeError::Unknown) => Err(CodeError::Unknown),
     }
 }

@@ -1,19 +1,20 @@
 -- The stored settings and the stored encounter are within their limits in every state that a sheet can reach, and a refused record leaves the state as
 -- it was. Assumes nothing.
+use Rattle.std.specs.Prelude.{Result, Some}
 use mathlib.Core.Path.{◌≡◌, refl, sym, subst}
 use mathlib.Core.Bool.{Bool, true, false, cond}
 use mathlib.Core.List.{List, [], ◌∷◌}
 use Prim.Native.Nat.{ℕ}
 use native.Mathlib.Omega.{arith}
 use lib.Dec.{T}
-use Rattle.judge.specs.declared.Answer.{Answer}
 use Rattle.question.specs.Refusals.{encounter_within, puck_within, delay_acceleration_within}
 use Rattle.record.specs.declared.Record.{Record}
 use Rattle.record.specs.declared.Record.TheVariants.{Encounter, Puck, DelayAcceleration, Coded, Free, Unknown}
-use Rattle.reply.specs.declared.Reply.TheVariants.{Answered}
 use Rattle.answering.specs.declared.State.{State}
 use Rattle.answering.specs.States.{starting_state, with_puck, with_delay_acceleration, with_settings, with_encounter, state_after, state_after_all, StoredWithin}
 use Rattle.answering.specs.Replies.{settings_reply, reply_to}
+use Rattle.question.specs.declared.Refusal.{Refusal}
+use Rattle.verdict.specs.declared.Verdict.{Verdict}
 
 passed : {b : Bool} → b ≡ true → T b
 passed e = subst T (sym e) tt
@@ -52,12 +53,12 @@ pub stored_within : (rs : List Record) → StoredWithin (state_after_all startin
 stored_within rs = records_keep_within starting_state rs starting_within
 
 -- ---- "one record of kind 68, settings and encounter unchanged"
-picked : (b : Bool) (n : ℕ) (a : Answer) (new old : State) → settings_reply b n ≡ Answered a → cond b new old ≡ old
+picked : (b : Bool) (n : ℕ) (a : Result Verdict Refusal) (new old : State) → settings_reply b n ≡ Some a → cond b new old ≡ old
 picked true n a new old e = absurd (let z : ◌≡◌ {A = ℕ} 0 1 = cc in omega arith)
 picked false n a new old e = refl
 
 -- a record that gets an answer, a refusal among them, changes nothing
-pub answered_unchanged : (st : State) (r : Record) (a : Answer) → reply_to st r ≡ Answered a → state_after st r ≡ st
+pub answered_unchanged : (st : State) (r : Record) (a : Result Verdict Refusal) → reply_to st r ≡ Some a → state_after st r ≡ st
 unfolding state_after reply_to
 answered_unchanged st (Encounter x) a e = picked (encounter_within x) 1 a (with_encounter st x) st e
 answered_unchanged st (Puck p k) a e = picked (puck_within (with_puck st.settings p k)) 2 a (with_settings st (with_puck st.settings p k)) st e

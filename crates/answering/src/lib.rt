@@ -27,7 +27,7 @@ pub enum LastEncounter {
 #[derive(Clone, Copy)]
 pub struct State {
     settings: Settings,
-    encounter: LastEncounter,
+    encounter: Option<Encounter>,
 }
 
 pub fn starting_state() -> State
@@ -35,7 +35,7 @@ pub fn starting_state() -> State
 {
     State {
         settings: Settings::new(),
-        encounter: LastEncounter::Absent,
+        encounter: None,
     }
 }
 
@@ -75,7 +75,7 @@ fn with_encounter(state: State, encounter: Encounter) -> State
     let settings = state.settings;
     State {
         settings: settings,
-        encounter: LastEncounter::Present(encounter),
+        encounter: Some(encounter),
     }
 }
 
@@ -113,41 +113,41 @@ pub fn state_after(state: State, given: Record) -> State
 }
 
 // Settings that are accepted get no answer.
-fn settings_reply(accepted: bool, number: u8) -> Reply
+fn settings_reply(accepted: bool, number: u8) -> Option<Result<Verdict, Refusal>>
     ensures { result ≡ settings_reply accepted number }
 {
     if accepted {
-        Reply::Silent
+        None
     } else {
-        Reply::Answered(Answer::Refused(number))
+        Some(Err(number))
     }
 }
 
 #[tactic(auto, unfolding(crate::specs::Replies::coded_answer))]
-fn coded_answer(encounter: LastEncounter, settings: Settings, code: u8, limit: i64) -> Answer
+fn coded_answer(encounter: Option<Encounter>, settings: Settings, code: u8, limit: i64) -> Result<Verdict, Refusal>
     ensures { answer_record result ≡ answer_record (coded_answer encounter settings code limit) }
 {
     match encounter {
-        LastEncounter::Absent => Answer::Refused(7),
-        LastEncounter::Present(present) => match coded_question(code, present.speed, limit) {
-            CodedQuestion::Asked(question) => judge(present, settings, question),
-            CodedQuestion::Refused(number) => Answer::Refused(number),
+        None => Err(Refusal::NoEncounter),
+        Some(present) => match coded_question(code, present.speed, limit) {
+            Ok(question) => judge(present, settings, question),
+            Err(number) => Err(number),
         },
     }
 }
 
 #[tactic(auto, unfolding(crate::specs::Replies::free_answer))]
-fn free_answer(encounter: LastEncounter, settings: Settings, question: Question) -> Answer
+fn free_answer(encounter: Option<Encounter>, settings: Settings, question: Question) -> Result<Verdict, Refusal>
     ensures { answer_record result ≡ answer_record (free_answer encounter settings question) }
 {
     match encounter {
-        LastEncounter::Absent => Answer::Refused(7),
-        LastEncounter::Present(present) => judge(present, settings, question),
+        None => Err(Refusal::NoEncounter),
+        Some(present) => judge(present, settings, question),
     }
 }
 
 #[tactic(auto, unfolding(crate::specs::Replies::reply_to))]
-pub fn reply_to(state: State, given: Record) -> Reply
+pub fn reply_to(state: State, given: Record) -> Option<Result<Verdict, Refusal>>
     ensures { reply_record result ≡ reply_record (reply_to state given) }
 {
     let settings = state.settings;
@@ -162,10 +162,10 @@ pub fn reply_to(state: State, given: Record) -> Reply
             delay_acceleration_within(with_delay_acceleration(settings, e)),
             3,
         ),
-        Record::Coded(code, limit) => Reply::Answered(coded_answer(
+        Record::Coded(code, limit) => Some(coded_answer(
             encounter, settings, code, limit,
         )),
-        Record::Free(question) => Reply::Answered(free_answer(encounter, settings, question)),
-        Record::Unknown => Reply::Silent,
+        Record::Free(question) => Some(free_answer(encounter, settings, question)),
+        Record::Unknown => None,
     }
 }

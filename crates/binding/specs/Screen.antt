@@ -1,14 +1,15 @@
 -- A drawing and a screen point as structs of numbers, as they cross to C and Rust, with 0 in the fields that are not used.
-use Rattle.std.specs.Prelude.{List, [], ◌∷◌, ℕ, zero, suc, length, pos, Float}
+use Rattle.std.specs.Prelude.{List, [], ◌∷◌, ℕ, zero, suc, length, pos, Float, Err, Ok, Result}
 use Rattle.instant.specs.declared.Time.{Time}
 use Rattle.screen.specs.declared.Piece.{Piece}
 use Rattle.screen.specs.declared.DrawnPiece.{DrawnPiece}
-use Rattle.screen.specs.declared.PointAnswer.{PointAnswer}
 use Rattle.screen.specs.Floats.{float}
 use Rattle.screen.specs.Drawings.{Content, refused, drawn}
 use Rattle.binding.specs.declared.PieceResult.{PieceResult}
 use Rattle.binding.specs.declared.DrawingResult.{DrawingResult}
 use Rattle.binding.specs.declared.PointResult.{PointResult}
+use Rattle.question.specs.declared.Refusal.{Refusal}
+use Rattle.screen.specs.declared.ScreenPoint.{ScreenPoint}
 
 -- +0
 abbrev pub no_number : Float
@@ -54,6 +55,6 @@ flat_content (refused n) = record { refusal = n; pieces = 0; first = no_piece; s
 flat_content (drawn l) = record { refusal = 0; pieces = length l; first = piece_in l 0; second = piece_in l 1; third = piece_in l 2 }
 
 -- "a time and a height as two 64-bit floats", or the refusal
-abbrev pub flat_point : PointAnswer → PointResult
-flat_point (PointAnswer.Refused n) = record { refusal = n; time = no_number; height = no_number }
-flat_point (PointAnswer.Drawn p) = record { refusal = 0; time = p.time; height = p.height }
+abbrev pub flat_point : Result ScreenPoint Refusal → PointResult
+flat_point (Err n) = record { refusal = n; time = no_number; height = no_number }
+flat_point (Ok p) = record { refusal = 0; time = p.time; height = p.height }

@@ -74,12 +74,12 @@ fn flat_verdict(verdict: Verdict) -> JudgeResult
     }
 }
 
-fn flat_answer(answer: Answer) -> JudgeResult
+fn flat_answer(answer: Result<Verdict, Refusal>) -> JudgeResult
     ensures { result ≡ flat_answer answer }
 {
     match answer {
-        Answer::Judged(verdict) => flat_verdict(verdict),
-        Answer::Refused(number) => with_times(68, number as u64, no_time(), no_time()),
+        Ok(verdict) => flat_verdict(verdict),
+        Err(number) => with_times(68, number as u64, no_time(), no_time()),
     }
 }
 
@@ -173,15 +173,15 @@ pub struct SheetResult {
     pub length: u64,
 }
 
-fn flat_outcome(outcome: Outcome) -> SheetResult
+fn flat_outcome(outcome: Result<usize, Refusal>) -> SheetResult
     ensures { result ≡ flat_outcome outcome }
 {
     match outcome {
-        Outcome::Accepted(written) => SheetResult {
+        Ok(written) => SheetResult {
             refusal: 0,
             length: written as u64,
         },
-        Outcome::Refused(number) => SheetResult {
+        Err(number) => SheetResult {
             refusal: number as u64,
             length: 0,
         },
@@ -341,16 +341,16 @@ pub struct PointResult {
     pub height: f64,
 }
 
-fn flat_point(answer: PointAnswer) -> PointResult
+fn flat_point(answer: Result<ScreenPoint, Refusal>) -> PointResult
     ensures { result ≡ flat_point answer }
 {
     match answer {
-        PointAnswer::Refused(number) => PointResult {
+        Err(number) => PointResult {
             refusal: number as u64,
             time: 0.0,
             height: 0.0,
         },
-        PointAnswer::Drawn(point) => PointResult {
+        Ok(point) => PointResult {
             refusal: 0,
             time: point.time,
             height: point.height,
@@ -415,17 +415,17 @@ fn yes_number(yes: bool) -> u64
     0
 }
 
-fn flat_entry(obeys: u64, entry: PuckEntry) -> FlightResult
+fn flat_entry(obeys: u64, entry: Option<u64>) -> FlightResult
     ensures { result ≡ flat_entry obeys entry }
 {
     match entry {
-        PuckEntry::Never => FlightResult {
+        None => FlightResult {
             refusal: 0,
             obeys: obeys,
             inside: 0,
             second: 0,
         },
-        PuckEntry::During(second) => FlightResult {
+        Some(second) => FlightResult {
             refusal: 0,
             obeys: obeys,
             inside: 1,
@@ -434,11 +434,11 @@ fn flat_entry(obeys: u64, entry: PuckEntry) -> FlightResult
     }
 }
 
-fn flat_flight(answer: FlightAnswer) -> FlightResult
+fn flat_flight(answer: Result<Flown, Refusal>) -> FlightResult
     ensures { result ≡ flat_flight answer }
 {
     match answer {
-        FlightAnswer::Refused(number) => FlightResult {
+        Err(number) => FlightResult {
             refusal: number as u64,
             obeys: 0,
             inside: 0,

@@ -51,18 +51,18 @@ fn check_flight(
     settings: Settings,
     advice: OneSidedAdvice,
     flight: &[i64],
-) -> Checked
+) -> Result<(), Refusal>
     ensures { result ≡ flight_refusal encounter settings advice flight.now }
 {
     match check_question(encounter, settings, asked(advice)) {
-        Checked::Accepted => {
+        Ok(()) => {
             if flight_within(flight) {
-                Checked::Accepted
+                Ok(())
             } else {
-                Checked::Refused(18)
+                Err(Refusal::FlightOutside)
             }
         }
-        Checked::Refused(number) => Checked::Refused(number),
+        Err(number) => Err(number),
     }
 }
 
@@ -72,11 +72,11 @@ pub fn judge_flight(
     settings: Settings,
     advice: OneSidedAdvice,
     flight: &[i64],
-) -> FlightAnswer
+) -> Result<Flown, Refusal>
     ensures { flight_record result ≡ flight_record (flight_answer encounter settings advice flight.now) }
 {
     match check_flight(encounter, settings, advice, flight) {
-        Checked::Accepted => {
+        Ok(()) => {
             let question = asked(advice);
             let s = sensed_question(encounter, settings, question);
             let w = sense_of(question);
@@ -84,6 +84,6 @@ pub fn judge_flight(
             let entry = first_inside(s, w, flight);
             FlightAnswer::Flown(obeys, entry)
         }
-        Checked::Refused(number) => FlightAnswer::Refused(number),
+        Err(number) => Err(number),
     }
 }

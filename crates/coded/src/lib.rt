@@ -63,16 +63,16 @@ fn maintainable(code: u8, v: i64) -> bool
 
 // A question by code as a free one: refusal 17 for a speed that can't be maintained, 9 for codes that are not judged, 8 for unknown ones.
 #[tactic(auto, unfolding(crate::specs::Coded::coded_question))]
-pub fn coded_question(code: u8, v: i64, limit: i64) -> CodedQuestion
+pub fn coded_question(code: u8, v: i64, limit: i64) -> Result<Question, Refusal>
     ensures { result ≡ coded_question code v limit }
 {
     match advise(code) {
-        Advised::Judged(i) => if maintainable(code, v) {
-            CodedQuestion::Asked(instructed(i, v, limit))
+        Ok(i) => if maintainable(code, v) {
+            Ok(instructed(i, v, limit))
         } else {
-            CodedQuestion::Refused(17)
+            Err(Refusal::NeverIssued)
         },
-        Advised::NotJudged => CodedQuestion::Refused(9),
-        Advised::Unknown => CodedQuestion::Refused(8),
+        Err(CodeError::NotJudged) => Err(Refusal::CodeNotJudged),
+        Err(CodeError::Unknown) => Err(Refusal::CodeUnknown),
     }
 }

@@ -1,4 +1,5 @@
 -- The numbers that C and Rust get hold the drawing and the screen point: no refusal is numbered 0, and a drawing has at most three pieces. Assumes nothing.
+use Rattle.std.specs.Prelude.{Err, Ok, Result, ⊤}
 use mathlib.Core.Path.{◌≡◌, refl, sym, ap, subst, ◌∙◌}
 use mathlib.Core.Bool.{Bool, true, false, cond, ◌&&◌}
 use mathlib.Core.List.{List, [], ◌∷◌, ◌++◌}
@@ -13,7 +14,6 @@ use Rattle.instant.specs.declared.Time.{Time}
 use Rattle.question.specs.declared.Encounter.{Encounter}
 use Rattle.question.specs.declared.Settings.{Settings}
 use Rattle.question.specs.declared.Question.{Question}
-use Rattle.question.specs.declared.Checked.{Checked}
 use Rattle.question.specs.Refusals.{Check, check, first_refusal, plain_checks, refusal}
 use Rattle.sensed.specs.Sensed.{sensed_question}
 use Rattle.pieces.specs.Pieces.{last_second}
@@ -27,17 +27,18 @@ use Rattle.binding.specs.declared.PointResult.{PointResult}
 use Rattle.binding.specs.Screen.{with_time, flat_piece, flat_content, flat_point}
 use Rattle.demands.specs.Screen.{piece_in, content_in, point_in, RightlyDrawn, RightlyPlaced}
 use Rattle.demands.proofs.ScreenRight.{at_most_three, drawing_right, point_right}
+use Rattle.question.specs.declared.Refusal.{Refusal}
 
 -- ---- the refusals' numbers
 abbrev pub numbered : List Check → Bool
 numbered [] = true
 numbered (c ∷ l) = ltb 0 c.number && numbered l
 
-pub first_number : (l : List Check) → T (numbered l) → (n : ℕ) → first_refusal l ≡ Checked.Refused n → 0 < n
+pub first_number : (l : List Check) → T (numbered l) → (n : ℕ) → first_refusal l ≡ Err n → 0 < n
 first_number [] h n e = absurd (let z : ◌≡◌ {A = ℕ} 0 1 = cc in omega arith)
 first_number (c ∷ l) h n e = go c.passes (first_number l (and_r (ltb 0 c.number) (numbered l) h) n) e
   where
-    go : (b : Bool) → (first_refusal l ≡ Checked.Refused n → 0 < n) → cond b (first_refusal l) (Checked.Refused c.number) ≡ Checked.Refused n → 0 < n
+    go : (b : Bool) → (first_refusal l ≡ Err n → 0 < n) → cond b (first_refusal l) (Err c.number) ≡ Err n → 0 < n
     go true f k = f k
     go false f k = let z : c.number ≡ n = cc in let above = ltb→lt 0 c.number (and_l (ltb 0 c.number) (numbered l) h) in omega (arith, z, above)
 
@@ -62,17 +63,17 @@ pieces_held (p ∷ q ∷ r ∷ []) h = three (piece_held p) (piece_held q) (piec
     three e f g = cc
 pieces_held (p ∷ q ∷ r ∷ x ∷ l) h = absurd (omega (arith, h))
 
-content_held : (k : Checked) → ((n : ℕ) → k ≡ Checked.Refused n → 0 < n) → (l : List DrawnPiece) → length l ≤ 3 → content_in (flat_content (checked_content k l)) ≡ checked_content k l
-content_held Checked.Accepted f l h = pieces_held l h
-content_held (Checked.Refused n) f l h = picks_no _ _ _ (ne_eqb n 0 (omega (arith, f n refl)))
+content_held : (k : Result ⊤ Refusal) → ((n : ℕ) → k ≡ Err n → 0 < n) → (l : List DrawnPiece) → length l ≤ 3 → content_in (flat_content (checked_content k l)) ≡ checked_content k l
+content_held (Ok tt) f l h = pieces_held l h
+content_held (Err n) f l h = picks_no _ _ _ (ne_eqb n 0 (omega (arith, f n refl)))
 
 -- ---- a point
-point_held : (k : Checked) → ((n : ℕ) → k ≡ Checked.Refused n → 0 < n) → (p : ScreenPoint) → point_in (flat_point (checked_point k p)) ≡ checked_point k p
-point_held Checked.Accepted f p = refl
-point_held (Checked.Refused n) f p = picks_no _ _ _ (ne_eqb n 0 (omega (arith, f n refl)))
+point_held : (k : Result ⊤ Refusal) → ((n : ℕ) → k ≡ Err n → 0 < n) → (p : ScreenPoint) → point_in (flat_point (checked_point k p)) ≡ checked_point k p
+point_held (Ok tt) f p = refl
+point_held (Err n) f p = picks_no _ _ _ (ne_eqb n 0 (omega (arith, f n refl)))
 
 module _ (x : Encounter) (y : Settings) (z : Question) where
-  refusal_number : (n : ℕ) → refusal x y z ≡ Checked.Refused n → 0 < n
+  refusal_number : (n : ℕ) → refusal x y z ≡ Err n → 0 < n
   unfolding refusal
   refusal_number = first_number (plain_checks x y z) tt
 
@@ -84,9 +85,9 @@ module _ (x : Encounter) (y : Settings) (z : Question) where
   rightly_drawn out e = subst (RightlyDrawn x y z) (sym (ap content_in e ∙ drawing_held)) (drawing_right x y z)
 
   module _ (t : ℕ) where
-    point_number : (n : ℕ) → point_refusal x y z t ≡ Checked.Refused n → 0 < n
+    point_number : (n : ℕ) → point_refusal x y z t ≡ Err n → 0 < n
     unfolding point_refusal
-    point_number = first_number (plain_checks x y z ++ (check 6 (leb t last_second) ∷ [])) tt
+    point_number = first_number (plain_checks x y z ++ (check Refusal.TimesOutside (leb t last_second) ∷ [])) tt
 
     answer_held : point_in (flat_point (screen_point x y z t)) ≡ screen_point x y z t
     unfolding screen_point

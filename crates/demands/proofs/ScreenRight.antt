@@ -1,5 +1,6 @@
 -- The demands of a drawing and of a screen point, from `screen`'s theorems: a piece's time as it is shown is its time as a fraction, and so are the order
 -- of two and what lies between them. Assumes nothing.
+use Rattle.std.specs.Prelude.{Err, Ok, Result, ⊤}
 use mathlib.Core.Path.{◌≡◌, refl, sym, ap, subst, ◌∙◌}
 use mathlib.Core.Bool.{Bool, true, false, cond}
 use mathlib.Core.List.{List, [], ◌∷◌, ◌++◌}
@@ -24,7 +25,6 @@ use Rattle.path.specs.inner.Sizes.{Sizes}
 use Rattle.question.specs.declared.Encounter.{Encounter}
 use Rattle.question.specs.declared.Settings.{Settings}
 use Rattle.question.specs.declared.Question.{Question}
-use Rattle.question.specs.declared.Checked.{Checked}
 use Rattle.question.specs.Refusals.{is_number, refusal}
 use Rattle.sensed.specs.Sensed.{sensed_question}
 use Rattle.sensed.proofs.AcceptedSizes.{accepted_sizes}
@@ -36,7 +36,6 @@ use Rattle.pieces.proofs.Fields.{delay_sizes, arc_sizes, last_sizes}
 use Rattle.pieces.proofs.PathPieces.{right_pieces}
 use Rattle.screen.specs.declared.Piece.{Piece}
 use Rattle.screen.specs.declared.DrawnPiece.{DrawnPiece}
-use Rattle.screen.specs.declared.PointAnswer.{PointAnswer}
 use Rattle.screen.specs.Floats.{float}
 use Rattle.screen.specs.Drawings.{float_piece, drawn_piece, all_drawn, drawn_pieces, drawn, checked_content, screen_drawing}
 use Rattle.screen.specs.Points.{screen_point}
@@ -44,6 +43,8 @@ use Rattle.screen.specs.RightScreen.{IsStraight, ExactPiece, ExactOnTheWay, Righ
 use Rattle.screen.proofs.Evaluation.{evaluated_exact}
 use Rattle.screen.proofs.DrawnPath.{exact_piece, accepted_second, second_above, refused_second, refused_drawing}
 use Rattle.demands.specs.Screen.{HasCoefficients, BeforeNext, HasLength, DrawsStretch, EachDraws, StartsAt, later_times, rule_changes, Kept, DrawsPath, RightlyDrawn, OnPath, RightlyPlaced}
+use Rattle.question.specs.declared.Refusal.{Refusal}
+use Rattle.screen.specs.declared.ScreenPoint.{ScreenPoint}
 
 -- ---- the time shown of n/m
 module _ (p : WholePiece) (h : 0 < p.from.m) where
@@ -172,9 +173,9 @@ module _ (x : Encounter) (y : Settings) (z : Question) where
   abbrev asked : SensedQuestion
   asked = sensed_question x y z
 
-  accepted_content : refusal x y z ≡ Checked.Accepted → screen_drawing x y z ≡ drawn (drawn_pieces asked)
+  accepted_content : refusal x y z ≡ Ok tt → screen_drawing x y z ≡ drawn (drawn_pieces asked)
   unfolding screen_drawing
-  accepted_content e = ap (λ (k : Checked). checked_content k (drawn_pieces asked)) e
+  accepted_content e = ap (λ (k : Result ⊤ Refusal). checked_content k (drawn_pieces asked)) e
 
   pub drawing_right : RightlyDrawn x y z (screen_drawing x y z)
   drawing_right = record {
@@ -186,9 +187,9 @@ module _ (x : Encounter) (y : Settings) (z : Question) where
     abbrev held : WholePiece
     held = piece_at asked (t ÷ 1)
 
-    on_path : (r : PointAnswer) → RightPointAnswer asked t r → (p : _) × (r ≡ PointAnswer.Drawn p) × OnPath asked t p
-    on_path (PointAnswer.Refused n) h = absurd h
-    on_path (PointAnswer.Drawn p) h = (
+    on_path : (r : Result ScreenPoint Refusal) → RightPointAnswer asked t r → (p : _) × (r ≡ Ok p) × OnPath asked t p
+    on_path (Err n) h = absurd h
+    on_path (Ok p) h = (
       p,
       refl,
       record {

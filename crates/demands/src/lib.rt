@@ -25,7 +25,7 @@ use screen::{Drawing, PointAnswer};
 use sheet::{Outcome, answer_sheet};
 
 // The entry for plain numbers.
-pub fn judge_demanded(encounter: Encounter, settings: Settings, question: Question) -> Answer
+pub fn judge_demanded(encounter: Encounter, settings: Settings, question: Question) -> Result<Verdict, Refusal>
     ensures { RightlyAnswered encounter settings question result }
 {
     judge(encounter, settings, question)
@@ -73,7 +73,7 @@ pub fn judge_plain_demanded(
 }
 
 // The entry for sheets.
-pub fn answer_sheet_demanded(sheet: &[u8], area: &mut [u8]) -> Outcome
+pub fn answer_sheet_demanded(sheet: &[u8], area: &mut [u8]) -> Result<usize, Refusal>
     ensures { SheetAnswered sheet.now area.old area.new result }
 {
     answer_sheet(sheet, area)
@@ -105,7 +105,7 @@ pub fn point_demanded(
     settings: Settings,
     question: Question,
     second: u64,
-) -> PointAnswer
+) -> Result<ScreenPoint, Refusal>
     ensures { RightlyPlaced encounter settings question second result }
 {
     screen::screen_point(encounter, settings, question, second)
@@ -209,7 +209,7 @@ pub fn flight_demanded(
     settings: Settings,
     advice: OneSidedAdvice,
     flight: &[i64],
-) -> FlightAnswer
+) -> Result<Flown, Refusal>
     ensures { RightlyFlown encounter settings advice flight.now result }
 {
     candidate::judge_flight(encounter, settings, advice, flight)
@@ -218,8 +218,8 @@ pub fn flight_demanded(
 // The answers to a flight and to the question that its advice asks.
 #[derive(Clone, Copy)]
 pub struct BothAnswers {
-    pub judged: Answer,
-    pub flown: FlightAnswer,
+    pub judged: Result<Verdict, Refusal>,
+    pub flown: Result<Flown, Refusal>,
 }
 
 pub fn flight_and_verdict_demanded(

@@ -144,15 +144,15 @@ fn advice_in(case: &[u8]) -> OneSidedAdvice
     }
 }
 
-fn flown_numbers(obeys: bool, entry: PuckEntry) -> Numbers {
+fn flown_numbers(obeys: bool, entry: Option<u64>) -> Numbers {
     match entry {
-        PuckEntry::Never => Numbers {
+        None => Numbers {
             refusal: 0,
             obeys: obeys as u64,
             inside: 0,
             second: 0,
         },
-        PuckEntry::During(second) => Numbers {
+        Some(second) => Numbers {
             refusal: 0,
             obeys: obeys as u64,
             inside: 1,
@@ -161,9 +161,9 @@ fn flown_numbers(obeys: bool, entry: PuckEntry) -> Numbers {
     }
 }
 
-fn answer_numbers(answer: FlightAnswer) -> Numbers {
+fn answer_numbers(answer: Result<Flown, Refusal>) -> Numbers {
     match answer {
-        FlightAnswer::Refused(number) => Numbers {
+        Err(number) => Numbers {
             refusal: number as u64,
             obeys: 0,
             inside: 0,
@@ -181,7 +181,7 @@ fn flight_length(case: &[u8], room: &[i64]) -> usize
     smaller(natural_at(case, 104) as usize, room.len())
 }
 
-fn judged(case: &[u8], room: &[i64]) -> FlightAnswer
+fn judged(case: &[u8], room: &[i64]) -> Result<Flown, Refusal>
     requires { 152 ≤ length case.now }
 {
     let count = flight_length(case, room);
@@ -193,7 +193,7 @@ fn judged(case: &[u8], room: &[i64]) -> FlightAnswer
     )
 }
 
-fn answer_to(case: &[u8]) -> FlightAnswer
+fn answer_to(case: &[u8]) -> Result<Flown, Refusal>
     requires { 152 ≤ length case.now }
 {
     let mut room = [0i64; FLIGHT_ROOM];

@@ -119,7 +119,7 @@ pub fn flight_obeys(s: SensedQuestion, w: Sense, flight: &[i64]) -> bool
 }
 
 // The first second with a time inside the puck; of the flight's end the instant alone.
-pub fn first_inside(s: SensedQuestion, w: Sense, flight: &[i64]) -> PuckEntry
+pub fn first_inside(s: SensedQuestion, w: Sense, flight: &[i64]) -> Option<u64>
     requires sizes { Sizes s }
     requires flight_value { numbers_within flight.now ≡ true }
     ensures { result ≡ first_inside s (sensed_flight w (flight_of flight.now)) }
@@ -127,12 +127,12 @@ pub fn first_inside(s: SensedQuestion, w: Sense, flight: &[i64]) -> PuckEntry
     let mut place = first_place(s, w, flight);
     while 0 < place.left {
         if crosses_in_second(s, place.second, place.motion) {
-            return PuckEntry::During(place.second);
+            return Some(place.second);
         }
         place = next_place(s, w, flight, place);
     }
     if inside_at(s, place.second, place.motion) {
-        return PuckEntry::During(place.second);
+        return Some(place.second);
     }
-    PuckEntry::Never
+    None
 }

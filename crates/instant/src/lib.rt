@@ -14,13 +14,6 @@ pub struct Instant {
     pub m: u64,
 }
 
-// An instant, or none.
-#[derive(Clone, Copy)]
-pub enum Moment {
-    At(Instant),
-    Never,
-}
-
 // A time as it is shown: whole seconds, and remainder/divisor of a second in lowest terms.
 #[derive(Clone, Copy)]
 pub struct Time {

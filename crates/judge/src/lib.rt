@@ -27,11 +27,11 @@ pub fn sides_number(sides: ClearSides) -> u8
 
 // The entry for plain numbers: any 64-bit values.
 #[tactic(auto, unfolding(crate::specs::Answers::answer))]
-pub fn judge(encounter: Encounter, settings: Settings, question: Question) -> Answer
+pub fn judge(encounter: Encounter, settings: Settings, question: Question) -> Result<Verdict, Refusal>
     ensures { answer_record result ≡ answer_record (answer encounter settings question) }
 {
     match check_question(encounter, settings, question) {
-        Checked::Accepted => Answer::Judged(verdict_on(encounter, settings, question)),
-        Checked::Refused(number) => Answer::Refused(number),
+        Ok(()) => Ok(verdict_on(encounter, settings, question)),
+        Err(number) => Err(number),
     }
 }

@@ -1,6 +1,7 @@
 -- One theorem for every side: a conflict somewhere in the window is a conflict at an instant of the list, unless the window has no end and the path
 -- sinks for ever. A profile is a height that is in conflict at an edge and below it; the upper side is turned over. The given time and the listed instants
 -- are brought over one denominator, where the path is a list of pieces. Assumes nothing.
+use Rattle.std.specs.Prelude.{None, Option, Some}
 use mathlib.Core.Path.{◌≡◌, refl, sym, ap, subst}
 use mathlib.Core.List.{List, [], ◌∷◌, ◌++◌}
 use mathlib.Core.Logic.{inl, inr}
@@ -13,8 +14,6 @@ use Rattle.integers.proofs.Quotation.{quote}
 use Rattle.integers.proofs.Certificates.{by≤, div≤, gap≤, ◌⊠◌, 0≤pos, pos<}
 use Rattle.integers.proofs.Laws.{≤ℤ_trans}
 use Rattle.instant.specs.declared.Instant.{Instant}
-use Rattle.instant.specs.declared.Moment.{Moment}
-use Rattle.instant.specs.declared.Moment.TheVariants.{At, Never}
 use Rattle.instant.specs.Order.{◌÷◌, ◌≼◌}
 use Rattle.path.specs.Instants.{Among, as_list}
 use Rattle.path.proofs.Membership.{among_left, among_right, among_one}
@@ -32,7 +31,7 @@ pub record Profile : Type 1 where
   -- the window: what lies between `first` and `last`, if any time is in it
   pub In : ℕ → ℕ → Type 0
   pub first : Instant
-  pub last : Moment
+  pub last : Option Instant
   pub in_between : (n m : ℕ) → 0 < m → In n m → Between first last n m
   pub between_in : (n m x y : ℕ) → 0 < m → In n m → Between first last x y → In x y
   -- the height, and the edge at which a conflict begins; both on a scale of m*m
@@ -88,7 +87,7 @@ module _ (P : Profile) (n m s : ℕ) (pm : 0 < m) (ps : 0 < s) where
 -- ---- the theorem, in the form: whatever follows from a low instant of the list, and from a path that sinks in a window without an end, holds
 module _ (P : Profile) (n m : ℕ) (pm : 0 < m) (L : Low P n m) (Y : Type 0)
     (found : (t : Instant) → Among t (tried P) → Low P t.n t.m → Y)
-    (sunk : P.last ≡ Never → P.sinks → ((j : ℕ) → P.first ≼ j ÷ 1 → P.In j 1) → Y) where
+    (sunk : P.last ≡ None → P.sinks → ((j : ℕ) → P.first ≼ j ÷ 1 → P.In j 1) → Y) where
   G : ℕ
   G = denominator (tried P)
 
@@ -141,12 +140,12 @@ module _ (P : Profile) (n m : ℕ) (pm : 0 < m) (L : Low P n m) (Y : Type 0)
   g : Shape P.height P.mids P.sinks M
   g = P.shape M M_positive (λ t i. multiple t (mid_tried t i))
 
-  closed : (e : Instant) → P.last ≡ At e → Y
+  closed : (e : Instant) → P.last ≡ Some e → Y
   closed e same =
-      let i : Among e (as_list P.last) = subst (λ (l : Moment). Among e (as_list l)) (sym same) (inl refl) in
+      let i : Among e (as_list P.last) = subst (λ (l : Option Instant). Among e (as_list l)) (sym same) (inl refl) in
       let o = over e (last_tried e i) in
       let here : (x : ℕ) → x ≤ o.0 → (t : Instant) → Among t (as_list P.last) → x ÷ M ≼ t =
-      λ x h t a. among_one (λ z. x ÷ M ≼ z) e t (le_over e o.0 M o.1 x h) (subst (λ (l : Moment). Among t (as_list l)) same a) in
+      λ x h t a. among_one (λ z. x ÷ M ≼ z) e t (le_over e o.0 M o.1 x h) (subst (λ (l : Option Instant). Among t (as_list l)) same a) in
       let w = inside o.0 here in
       let h : y ≤ o.0 = over_le e o.0 M o.1 y (P.divisor e (last_tried e i)) ((P.in_between y M M_positive given.window).before e i) in
       let s = S_y in
@@ -156,7 +155,7 @@ module _ (P : Profile) (n m : ℕ) (pm : 0 < m) (L : Low P n m) (Y : Type 0)
       (λ x k a b l. let q = g.places x k in reach q.t (mid_tried q.t q.among) x q.over (w x a b) l)
       (λ k. reach e (last_tried e i) o.0 o.1 (w o.0 (omega arith) (omega arith)) k)
 
-  unending : P.last ≡ Never → Y
+  unending : P.last ≡ None → Y
   unending same =
       least_open g.pieces S.0 y S_y Y
       (λ h. reach P.first (inl refl) S.0 S.1 (w S.0 (omega arith)) h)
@@ -164,7 +163,7 @@ module _ (P : Profile) (n m : ℕ) (pm : 0 < m) (L : Low P n m) (Y : Type 0)
       (λ h. sunk same (g.tail h) (λ j a. P.between_in y M j 1 M_positive given.window (record { after = a; before = none j 1 })))
     where
       none : (x z : ℕ) (t : Instant) → Among t (as_list P.last) → x ÷ z ≼ t
-      none x z t i = absurd (subst (λ (l : Moment). Among t (as_list l)) same i)
+      none x z t i = absurd (subst (λ (l : Option Instant). Among t (as_list l)) same i)
 
       w : (x : ℕ) → S.0 ≤ x → P.In x M
       w x i = inside x (λ z j. none z M) x i (omega arith)
@@ -172,6 +171,6 @@ module _ (P : Profile) (n m : ℕ) (pm : 0 < m) (L : Low P n m) (Y : Type 0)
   pub low_instant : Y
   low_instant = go P.last refl
     where
-      go : (l : Moment) → P.last ≡ l → Y
-      go Never e = unending e
-      go (At t) e = closed t e
+      go : (l : Option Instant) → P.last ≡ l → Y
+      go None e = unending e
+      go (Some t) e = closed t e

@@ -1,6 +1,7 @@
 -- The two sides as profiles, so that a conflict time on a side gives one among the instants that the rule tries, or a window without an end in which the
 -- path goes towards the intruder for ever; there it reaches the intruder's level by a numeral second. The delay is a hill; the advice rule is a valley, or
 -- goes down for ever; the upper path, turned over, is a hill or goes up for ever. Assumes nothing.
+use Rattle.std.specs.Prelude.{None}
 use mathlib.Core.Path.{◌≡◌, refl, sym, ap, ◌∙◌, subst}
 use mathlib.Core.List.{List, [], ◌∷◌}
 use mathlib.Core.Logic.{◌⊎◌, inl, inr, ⊎_elim}
@@ -14,7 +15,6 @@ use Rattle.integers.proofs.Quotation.{quote}
 use Rattle.integers.proofs.Certificates.{ring, by≤, gap≤, gap<, ◌⊞◌, ◌⊠◌, 0≤pos, pos≤, split<}
 use Rattle.integers.proofs.Laws.{≤ℤ-of-≡, <ℤ_≤ℤ, ≤ℤ_trans, negℤ_mono, negℤ_cancel, max0_same, maxℤ_above, maxℤ_right}
 use Rattle.instant.specs.declared.Instant.{Instant}
-use Rattle.instant.specs.declared.Moment.TheVariants.{Never}
 use Rattle.instant.specs.Order.{◌÷◌, ◌≼◌}
 use Rattle.path.specs.declared.SensedQuestion.{SensedQuestion}
 use Rattle.path.specs.declared.Side.{Side}
@@ -233,7 +233,7 @@ pub record Hit (side : Side) (s : SensedQuestion) : Type 0 where
 
 -- no end, and the path goes towards the intruder for ever; from its start on, every whole second is in the window
 pub record Endless (side : Side) (s : SensedQuestion) : Type 0 where
-  pub endless : window_end s ≡ Never
+  pub endless : window_end s ≡ None
   pub approaches : Approaches side s
   pub inside : (j : ℕ) → window_start s ≼ j ÷ 1 → Window s j 1
 

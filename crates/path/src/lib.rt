@@ -27,7 +27,7 @@ pub struct SensedQuestion {
     // The upper advice of a two-sided question.
     pub upper_target: i64,
     pub upper_strength: u64,
-    pub limit: Limit,
+    pub limit: Option<u64>,
 }
 
 // One-sided, the side is the lower one.

@@ -32,11 +32,11 @@ pub fn program_output(sheet: &[u8]) -> Output
 {
     let mut area = [0u8; ANSWER_ROOM];
     match answer_sheet(sheet, &mut area) {
-        Outcome::Accepted(written) => Output {
+        Ok(written) => Output {
             area: area,
             length: written,
         },
-        Outcome::Refused(number) => {
+        Err(number) => {
             area[0] = 69;
             area[1] = number;
             Output {

@@ -1,4 +1,5 @@
 -- Refusals 10 to 12 come from a sheet's length and kinds alone: two sheets with the same are checked alike. Assumes nothing.
+use Rattle.std.specs.Prelude.{Err, Result, ⊤}
 use mathlib.Core.Path.{◌≡◌, refl, sym, ap, ◌∙◌}
 use mathlib.Core.Bool.{cond}
 use mathlib.Core.List.{List, [], ◌∷◌}
@@ -6,10 +7,10 @@ use Prim.Native.Nat.{ℕ, zero, suc}
 use native.Mathlib.Omega.{arith}
 use lib.Dec.{leb}
 use lib.ListN.{length}
-use Rattle.question.specs.declared.Checked.{Checked}
 use Rattle.record.specs.declared.Kind.{Kind}
 use Rattle.record.specs.Kinds.{kind_of, body_length, known}
 use Rattle.record.specs.SheetCheck.{fault_after, sheet_check}
+use Rattle.question.specs.declared.Refusal.{Refusal}
 
 -- the kinds of a sheet's records, where so many bytes of a body are left to pass over first
 unfoldable pub kinds_after : ℕ → List ℕ → List Kind
@@ -35,10 +36,10 @@ fault_by_kinds (suc n) (a ∷ l) (b ∷ m) e h = fault_by_kinds n l m (omega ari
 fault_by_kinds zero (a ∷ l) (b ∷ m) e h =
     let k = head_same h in
     let t : kinds_after (body_length (kind_of a)) l ≡ kinds_after (body_length (kind_of a)) m = tail_same h ∙ ap (λ (k : Kind). kinds_after (body_length k) m) (sym k) in
-    ap (λ (c : Checked). cond (known (kind_of a)) c (Checked.Refused 11)) (fault_by_kinds (body_length (kind_of a)) l m (omega arith) t)
-    ∙ ap (λ (k : Kind). cond (known k) (fault_after (body_length k) m) (Checked.Refused 11)) k
+    ap (λ (c : Result ⊤ Refusal). cond (known (kind_of a)) c (Err Refusal.KindUnknown)) (fault_by_kinds (body_length (kind_of a)) l m (omega arith) t)
+    ∙ ap (λ (k : Kind). cond (known k) (fault_after (body_length k) m) (Err Refusal.KindUnknown)) k
 
 pub check_by_kinds : (s t : List ℕ) → length s ≡ length t → kinds s ≡ kinds t → sheet_check s ≡ sheet_check t
 check_by_kinds s t e h =
-    ap (λ (n : ℕ). cond (leb n 8192) (fault_after 0 s) (Checked.Refused 10)) e
-    ∙ ap (λ (c : Checked). cond (leb (length t) 8192) c (Checked.Refused 10)) (fault_by_kinds 0 s t e h)
+    ap (λ (n : ℕ). cond (leb n 8192) (fault_after 0 s) (Err Refusal.SheetTooLong)) e
+    ∙ ap (λ (c : Result ⊤ Refusal). cond (leb (length t) 8192) c (Err Refusal.SheetTooLong)) (fault_by_kinds 0 s t e h)

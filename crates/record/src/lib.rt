@@ -191,31 +191,31 @@ pub fn next_at(sheet: &[u8], at: usize) -> usize
 }
 
 // The first fault of the kinds and the lengths of the bodies.
-fn first_fault(sheet: &[u8]) -> Checked
+fn first_fault(sheet: &[u8]) -> Result<(), Refusal>
     ensures { result ≡ fault_after 0 sheet.now }
 {
     let mut at: usize = 0;
     while at < sheet.len() {
         let kind = kind_of(sheet[at]);
         if !is_known(kind) {
-            return Checked::Refused(11);
+            return Err(Refusal::KindUnknown);
         }
         let left = sheet.len() - at - 1;
         let body = body_length(kind);
         if left < body {
-            return Checked::Refused(12);
+            return Err(Refusal::RecordCutShort);
         }
         at = at + 1 + body;
     }
-    Checked::Accepted
+    Ok(())
 }
 
 // Refusals 10, 11 and 12.
-pub fn check_sheet(sheet: &[u8]) -> Checked
+pub fn check_sheet(sheet: &[u8]) -> Result<(), Refusal>
     ensures { result ≡ sheet_check sheet.now }
 {
     if MAX_SHEET < sheet.len() {
-        return Checked::Refused(10);
+        return Err(Refusal::SheetTooLong);
     }
     first_fault(sheet)
 }

@@ -122,43 +122,43 @@ fn times_within(question: Question) -> bool
 }
 
 // A question's own refusals: 4, 5, 14, 15, 16, 6.
-fn check_fields(question: Question) -> Checked
+fn check_fields(question: Question) -> Result<(), Refusal>
     ensures { result ≡ first_refusal (question_checks question) }
 {
     if !sides_known(question) {
-        return Checked::Refused(4);
+        return Err(Refusal::SidesOrSenseUnknown);
     }
     if !targets_within(question) {
-        return Checked::Refused(5);
+        return Err(Refusal::TargetOutside);
     }
     if !strengths_within(question) {
-        return Checked::Refused(14);
+        return Err(Refusal::StrengthOutside);
     }
     if !upper_target_in_sense(question) {
-        return Checked::Refused(15);
+        return Err(Refusal::UpperTargetBelow);
     }
     if !upper_unused(question) {
-        return Checked::Refused(16);
+        return Err(Refusal::UpperFieldsUsed);
     }
     if !times_within(question) {
-        return Checked::Refused(6);
+        return Err(Refusal::TimesOutside);
     }
-    Checked::Accepted
+    Ok(())
 }
 
 // The refusals of plain numbers: 1, 2, 3, then the question's own.
 #[tactic(auto, unfolding(question::specs::Refusals::refusal))]
-pub fn check_question(encounter: Encounter, settings: Settings, question: Question) -> Checked
+pub fn check_question(encounter: Encounter, settings: Settings, question: Question) -> Result<(), Refusal>
     ensures { result ≡ refusal encounter settings question }
 {
     if !encounter_within(encounter) {
-        return Checked::Refused(1);
+        return Err(Refusal::EncounterOutside);
     }
     if !puck_within(settings) {
-        return Checked::Refused(2);
+        return Err(Refusal::PuckOutside);
     }
     if !delay_acceleration_within(settings) {
-        return Checked::Refused(3);
+        return Err(Refusal::DelayAccelerationOutside);
     }
     check_fields(question)
 }

@@ -1,11 +1,9 @@
 // The bytes of an answer record, and writing them into an area. `specs/` says what the bytes are.
 #![tactic(auto)]
 
-ghost use Rattle.std.specs.Prelude.{◌≡◌, ◌+◌, ◌≤◌, length};
+ghost use Rattle.std.specs.Prelude.{◌≡◌, ◌+◌, ◌≤◌, length, Ok, Some};
 ghost use Rattle.std.proofs.lemmas.List.Edits.{sets};
-ghost use Rattle.judge.specs.declared.Answer.TheVariants.{Judged};
 ghost use Rattle.judge.specs.Answers.{time_numbers};
-ghost use Rattle.reply.specs.declared.Reply.TheVariants.{Answered};
 ghost use Rattle.reply.specs.AnswerBytes.{big_endian, body_bytes, reply_bytes};
 
 use instant::Time;
@@ -16,11 +14,11 @@ use verdict::Verdict;
 #[derive(Clone, Copy)]
 pub enum Reply {
     Silent,
-    Answered(Answer),
+    Answered(Result<Verdict, Refusal>),
 }
 
 fn verdict_length(verdict: Verdict) -> usize
-    ensures { result ≡ length (reply_bytes (Answered (Judged verdict))) }
+    ensures { result ≡ length (reply_bytes (Some (Ok verdict))) }
 {
     match verdict {
         Verdict::Clear(_) => 2,
@@ -29,21 +27,21 @@ fn verdict_length(verdict: Verdict) -> usize
     }
 }
 
-fn answer_length(answer: Answer) -> usize
-    ensures { result ≡ length (reply_bytes (Answered answer)) }
+fn answer_length(answer: Result<Verdict, Refusal>) -> usize
+    ensures { result ≡ length (reply_bytes (Some answer)) }
 {
     match answer {
-        Answer::Judged(verdict) => verdict_length(verdict),
-        Answer::Refused(_) => 2,
+        Ok(verdict) => verdict_length(verdict),
+        Err(_) => 2,
     }
 }
 
-pub fn reply_length(reply: Reply) -> usize
+pub fn reply_length(reply: Option<Result<Verdict, Refusal>>) -> usize
     ensures { result ≡ length (reply_bytes reply) }
 {
     match reply {
-        Reply::Silent => 0,
-        Reply::Answered(answer) => answer_length(answer),
+        None => 0,
+        Some(answer) => answer_length(answer),
     }
 }
 
@@ -68,8 +66,8 @@ fn write_time(area: &mut [u8], at: usize, time: Time)
 }
 
 fn write_verdict(area: &mut [u8], at: usize, verdict: Verdict)
-    requires { at + length (reply_bytes (Answered (Judged verdict))) ≤ length area.old }
-    ensures { area.new ≡ sets area.old at (reply_bytes (Answered (Judged verdict))) }
+    requires { at + length (reply_bytes (Some (Ok verdict))) ≤ length area.old }
+    ensures { area.new ≡ sets area.old at (reply_bytes (Some (Ok verdict))) }
 {
     match verdict {
         Verdict::Clear(sides) => {
@@ -88,28 +86,28 @@ fn write_verdict(area: &mut [u8], at: usize, verdict: Verdict)
     }
 }
 
-fn write_answer(area: &mut [u8], at: usize, answer: Answer)
-    requires { at + length (reply_bytes (Answered answer)) ≤ length area.old }
-    ensures { area.new ≡ sets area.old at (reply_bytes (Answered answer)) }
+fn write_answer(area: &mut [u8], at: usize, answer: Result<Verdict, Refusal>)
+    requires { at + length (reply_bytes (Some answer)) ≤ length area.old }
+    ensures { area.new ≡ sets area.old at (reply_bytes (Some answer)) }
 {
     match answer {
-        Answer::Judged(verdict) => {
+        Ok(verdict) => {
             write_verdict(area, at, verdict);
         }
-        Answer::Refused(number) => {
+        Err(number) => {
             area[at] = 68;
             area[at + 1] = number;
         }
     }
 }
 
-pub fn write_reply(area: &mut [u8], at: usize, reply: Reply)
+pub fn write_reply(area: &mut [u8], at: usize, reply: Option<Result<Verdict, Refusal>>)
     requires { at + length (reply_bytes reply) ≤ length area.old }
     ensures { area.new ≡ sets area.old at (reply_bytes reply) }
 {
     match reply {
-        Reply::Silent => {}
-        Reply::Answered(answer) => {
+        None => {}
+        Some(answer) => {
             write_answer(area, at, answer);
         }
     }

@@ -1,11 +1,10 @@
 -- "The lesson screen draws the lower path beside the verdict": a drawing is a list of pieces with their times, or a refusal.
-use Rattle.std.specs.Prelude.{cond, List, [], ◌∷◌, ℕ, pos}
+use Rattle.std.specs.Prelude.{cond, List, [], ◌∷◌, ℕ, pos, Err, Ok, Result, ⊤}
 use Rattle.instant.specs.Lowest.{lowest}
 use Rattle.path.specs.declared.SensedQuestion.{SensedQuestion}
 use Rattle.question.specs.declared.Encounter.{Encounter}
 use Rattle.question.specs.declared.Settings.{Settings}
 use Rattle.question.specs.declared.Question.{Question}
-use Rattle.question.specs.declared.Checked.{Checked}
 use Rattle.question.specs.Refusals.{is_number, refusal}
 use Rattle.sensed.specs.Sensed.{sensed_question}
 use Rattle.pieces.specs.declared.WholePiece.{WholePiece}
@@ -14,6 +13,7 @@ use Rattle.screen.specs.declared.Piece.{Piece}
 use Rattle.screen.specs.declared.DrawnPiece.{DrawnPiece}
 use Rattle.screen.specs.declared.Drawing.{Drawing}
 use Rattle.screen.specs.Floats.{float}
+use Rattle.question.specs.declared.Refusal.{Refusal}
 
 -- "a piece is a straight exactly if its t² has coefficient 0"; "its coefficients in t as 64-bit floats"
 abbrev pub float_piece : WholePiece → Piece
@@ -43,9 +43,9 @@ content (Drawing.Two p q) = drawn (p ∷ q ∷ [])
 content (Drawing.Three p q r) = drawn (p ∷ q ∷ r ∷ [])
 
 -- "the other refusals are those of the entry for plain numbers"
-abbrev pub checked_content : Checked → List DrawnPiece → Content
-checked_content Checked.Accepted l = drawn l
-checked_content (Checked.Refused n) l = refused n
+abbrev pub checked_content : Result ⊤ Refusal → List DrawnPiece → Content
+checked_content (Ok tt) l = drawn l
+checked_content (Err n) l = refused n
 
 unfoldable pub screen_drawing : Encounter → Settings → Question → Content
 unfolding refusal sensed_question drawn_pieces

@@ -101,8 +101,8 @@ pub fn screen_drawing(encounter: Encounter, settings: Settings, question: Questi
     ensures { content result ≡ screen_drawing encounter settings question }
 {
     match check_question(encounter, settings, question) {
-        Checked::Accepted => drawing_of(sensed_question(encounter, settings, question)),
-        Checked::Refused(number) => Drawing::Refused(number),
+        Ok(()) => drawing_of(sensed_question(encounter, settings, question)),
+        Err(number) => Drawing::Refused(number),
     }
 }
 
@@ -130,18 +130,18 @@ fn point_at(s: SensedQuestion, second: u64) -> ScreenPoint
 }
 
 // A second above 600 gets 6, after the refusals of the entry for plain numbers.
-fn check_point(encounter: Encounter, settings: Settings, question: Question, second: u64) -> Checked
+fn check_point(encounter: Encounter, settings: Settings, question: Question, second: u64) -> Result<(), Refusal>
     ensures { result ≡ point_refusal encounter settings question second }
 {
     match check_question(encounter, settings, question) {
-        Checked::Accepted => {
+        Ok(()) => {
             if second <= LAST_SECOND {
-                Checked::Accepted
+                Ok(())
             } else {
-                Checked::Refused(6)
+                Err(Refusal::TimesOutside)
             }
         }
-        Checked::Refused(number) => Checked::Refused(number),
+        Err(number) => Err(number),
     }
 }
 
@@ -151,14 +151,14 @@ pub fn screen_point(
     settings: Settings,
     question: Question,
     second: u64,
-) -> PointAnswer
+) -> Result<ScreenPoint, Refusal>
     ensures { result ≡ screen_point encounter settings question second }
 {
     match check_point(encounter, settings, question, second) {
-        Checked::Accepted => {
+        Ok(()) => {
             let s = sensed_question(encounter, settings, question);
-            PointAnswer::Drawn(point_at(s, second))
+            Ok(point_at(s, second))
         }
-        Checked::Refused(number) => PointAnswer::Refused(number),
+        Err(number) => Err(number),
     }
 }

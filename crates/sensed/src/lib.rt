@@ -1,9 +1,8 @@
 // An accepted question in its sense. `specs/` says what that is.
 #![tactic(auto)]
 
-ghost use Rattle.std.specs.Prelude.{◌≡◌};
+ghost use Rattle.std.specs.Prelude.{◌≡◌, Ok};
 ghost use Rattle.advisory.specs.Sign.{sign};
-ghost use Rattle.question.specs.declared.Checked.TheVariants.{Accepted};
 ghost use Rattle.question.specs.Refusals.{refusal};
 ghost use Rattle.sensed.specs.Sensed.{limit_of, sensed_motion, sensed_question};
 
@@ -32,18 +31,18 @@ pub fn sign_of(sense: Sense) -> i64
     }
 }
 
-fn limit_of(limit: i64) -> Limit
+fn limit_of(limit: i64) -> Option<u64>
     ensures { result ≡ limit_of limit }
 {
     if (NO_LIMIT <= limit) & (limit <= NO_LIMIT) {
-        return Limit::Unlimited;
+        return None;
     }
-    Limit::Upto(positive_part(limit))
+    Some(positive_part(limit))
 }
 
 // The intruder's height and the speeds of an accepted question, in the sense and relative to the intruder's speed.
 fn sensed_motion(encounter: Encounter, settings: Settings, question: Question) -> Motion
-    requires { refusal encounter settings question ≡ Accepted }
+    requires { refusal encounter settings question ≡ Ok tt }
     ensures { result ≡ sensed_motion encounter question }
 {
     let height = encounter.height;
@@ -66,7 +65,7 @@ pub fn sensed_question(
     settings: Settings,
     question: Question,
 ) -> SensedQuestion
-    requires { refusal encounter settings question ≡ Accepted }
+    requires { refusal encounter settings question ≡ Ok tt }
     ensures { result ≡ sensed_question encounter settings question }
 {
     let motion = sensed_motion(encounter, settings, question);

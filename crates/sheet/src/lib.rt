@@ -1,9 +1,8 @@
 // A question sheet, its records answered in order into an area that the caller lends. `specs/` says what the answer and each outcome are.
 #![tactic(auto)]
 
-ghost use Rattle.std.specs.Prelude.{◌≡◌, ◌+◌, ◌≤◌, leb, length};
+ghost use Rattle.std.specs.Prelude.{◌≡◌, ◌+◌, ◌≤◌, leb, length, Ok};
 ghost use Rattle.std.proofs.lemmas.List.Edits.{sets};
-ghost use Rattle.question.specs.declared.Checked.TheVariants.{Accepted};
 ghost use Rattle.record.specs.SheetCheck.{sheet_check};
 ghost use Rattle.reply.specs.AnswerBytes.{reply_bytes};
 ghost use Rattle.sheet.specs.WholeSheet.{sheet_answer, outcome, area_after, outcome_record};
@@ -25,7 +24,7 @@ pub enum Outcome {
 const LONGEST_ANSWER: usize = 26624;
 
 // A reply's bytes into the area, or none where the walk only counts.
-fn write_if(writing: bool, area: &mut [u8], at: usize, reply: Reply)
+fn write_if(writing: bool, area: &mut [u8], at: usize, reply: Option<Result<Verdict, Refusal>>)
     requires { needed writing (at + length (reply_bytes reply)) ≤ length area.old }
     ensures { area.new ≡ sets area.old at (kept writing (reply_bytes reply)) }
 {
@@ -36,7 +35,7 @@ fn write_if(writing: bool, area: &mut [u8], at: usize, reply: Reply)
 
 // The walk over a sheet's records: the length of its answer, whose bytes are written or only counted.
 fn walk_sheet(sheet: &[u8], area: &mut [u8], writing: bool) -> usize
-    requires { (sheet_check sheet.now ≡ Accepted) × (needed writing (length (sheet_answer sheet.now)) ≤ length area.old) }
+    requires { (sheet_check sheet.now ≡ Ok tt) × (needed writing (length (sheet_answer sheet.now)) ≤ length area.old) }
     ensures { (result ≡ length (sheet_answer sheet.now)) × (area.new ≡ sets area.old 0 (kept writing (sheet_answer sheet.now))) }
 {
     let mut place: usize = 0;
@@ -55,7 +54,7 @@ fn walk_sheet(sheet: &[u8], area: &mut [u8], writing: bool) -> usize
 
 // Whether an area of so many bytes holds the whole answer. Only one that could be too short costs a walk.
 fn answer_fits(sheet: &[u8], room: usize) -> bool
-    requires { sheet_check sheet.now ≡ Accepted }
+    requires { sheet_check sheet.now ≡ Ok tt }
     ensures { result ≡ leb (length (sheet_answer sheet.now)) room }
 {
     if LONGEST_ANSWER <= room {
@@ -66,15 +65,15 @@ fn answer_fits(sheet: &[u8], room: usize) -> bool
 }
 
 // The entry: any sheet, any area.
-pub fn answer_sheet(sheet: &[u8], area: &mut [u8]) -> Outcome
+pub fn answer_sheet(sheet: &[u8], area: &mut [u8]) -> Result<usize, Refusal>
     ensures { (outcome_record result ≡ outcome_record (outcome sheet.now (length area.old))) × (area.new ≡ area_after sheet.now area.old) }
 {
     match check_sheet(sheet) {
-        Checked::Refused(number) => Outcome::Refused(number),
-        Checked::Accepted => if answer_fits(sheet, area.len()) {
-            Outcome::Accepted(walk_sheet(sheet, area, true))
+        Err(number) => Err(number),
+        Ok(()) => if answer_fits(sheet, area.len()) {
+            Ok(walk_sheet(sheet, area, true))
         } else {
-            Outcome::Refused(13)
+            Err(Refusal::AreaTooShort)
         },
     }
 }

@@ -1,8 +1,7 @@
 // The time shown on a side: the first of the rule's instants with a conflict, or, where the window has no end, the first whole second with one.
 #![tactic(auto)]
 
-ghost use Rattle.std.specs.Prelude.{◌≡◌, ◌++◌};
-ghost use Rattle.instant.specs.declared.Moment.TheVariants.{At, Never};
+ghost use Rattle.std.specs.Prelude.{◌≡◌, ◌++◌, None, Some};
 ghost use Rattle.instant.specs.Order.{◌÷◌};
 ghost use Rattle.path.specs.declared.Side.TheVariants.{Lower, Upper};
 ghost use Rattle.path.specs.Letters.{q, a, d};
@@ -20,19 +19,19 @@ use path::{SensedQuestion, Side};
 use window::{in_window, positive_part, window_end};
 
 // The path's lowest point after the delay, if it has one.
-fn turning_instant(s: SensedQuestion) -> Moment
+fn turning_instant(s: SensedQuestion) -> Option<Instant>
     requires { Sizes s }
     ensures { result ≡ turning_instant (q s) (a s) (d s) (u_d s) }
 {
     let q = s.target;
     if q < 0 {
-        return Moment::Never;
+        return None;
     }
     let a = s.strength;
     let d = s.delay;
     let speed = speed_after_delay(Side::Lower, s);
     let back = positive_part(-speed);
-    Moment::At(Instant {
+    Some(Instant {
         n: d * a + back,
         m: a,
     })
@@ -72,7 +71,7 @@ fn search_end(side: Side, s: SensedQuestion) -> u64
 fn first_second(side: Side, s: SensedQuestion) -> u64
     requires sized { Sized side s }
     requires searchable { Searchable side s }
-    ensures { first_reached side s ≡ At (result ÷ 1) }
+    ensures { first_reached side s ≡ Some (result ÷ 1) }
 {
     let mut lo = search_start(side, s);
     let mut hi = search_end(side, s);
@@ -88,41 +87,41 @@ fn first_second(side: Side, s: SensedQuestion) -> u64
 }
 
 // What is left where the window has no end and no instant has a conflict.
-fn from_search(side: Side, s: SensedQuestion) -> Moment
+fn from_search(side: Side, s: SensedQuestion) -> Option<Instant>
     requires sized { Sized side s }
     requires opened { Opened s × InstantsTried side s }
-    requires s_value { window_end s ≡ Never }
+    requires s_value { window_end s ≡ None }
     ensures { result ≡ searched side s }
 {
     if !approaching(side, s) {
-        return Moment::Never;
+        return None;
     }
     let n = first_second(side, s);
-    Moment::At(Instant { n: n, m: 1 })
+    Some(Instant { n: n, m: 1 })
 }
 
 // An instant of the window, shown if the path is not beyond the intruder there.
-fn shown_at(side: Side, s: SensedQuestion, t: Instant) -> Moment
+fn shown_at(side: Side, s: SensedQuestion, t: Instant) -> Option<Instant>
     requires sized { Sized side s }
     requires in_reach { InReach side t.n t.m }
     ensures { result ≡ shown_at side s t }
 {
     if not_beyond(side, s, t.n, t.m) {
-        return Moment::At(t);
+        return Some(t);
     }
-    Moment::Never
+    None
 }
 
 // The window's end is in the window where its start is; without an end the search is left.
-fn from_end(side: Side, s: SensedQuestion) -> Moment
+fn from_end(side: Side, s: SensedQuestion) -> Option<Instant>
     requires sized { Sized side s }
     requires opened { Opened s × InstantsTried side s }
     ensures { result ≡ shown_from side s (as_list (window_end s)) }
 {
     let end = window_end(s);
     match end {
-        Moment::Never => from_search(side, s),
-        Moment::At(t) => shown_at(side, s, t),
+        None => from_search(side, s),
+        Some(t) => shown_at(side, s, t),
     }
 }
 
@@ -143,8 +142,8 @@ fn lowest_point(s: SensedQuestion, start: Instant) -> LowestPoint
 {
     let turning = turning_instant(s);
     match turning {
-        Moment::Never => LowestPoint::Beyond,
-        Moment::At(t) => {
+        None => LowestPoint::Beyond,
+        Some(t) => {
             if no_later(t, start) {
                 return LowestPoint::Passed;
             }
@@ -157,14 +156,14 @@ fn lowest_point(s: SensedQuestion, start: Instant) -> LowestPoint
 }
 
 // After d has been tried. Where the path has no conflict at its lowest, no later time has one.
-fn from_lowest(s: SensedQuestion, start: Instant) -> Moment
+fn from_lowest(s: SensedQuestion, start: Instant) -> Option<Instant>
     requires sizes { Sizes s }
     requires opened { Opened s × InstantsTried Lower s }
     requires start_value { start ≡ window_start s }
     ensures { result ≡ shown_from Lower s (as_list (turning_instant (q s) (a s) (d s) (u_d s)) ++ as_list (window_end s)) }
 {
     match lowest_point(s, start) {
-        LowestPoint::Passed => Moment::Never,
+        LowestPoint::Passed => None,
         LowestPoint::Inside(t) => shown_at(Side::Lower, s, t),
         LowestPoint::Beyond => from_end(Side::Lower, s),
     }
@@ -186,38 +185,38 @@ fn conflict_at_delay(s: SensedQuestion, start: Instant) -> bool
     false
 }
 
-fn from_delay(s: SensedQuestion, start: Instant) -> Moment
+fn from_delay(s: SensedQuestion, start: Instant) -> Option<Instant>
     requires sizes { Sizes s }
     requires opened { Opened s × StartTried Lower s }
     requires start_value { start ≡ window_start s }
     ensures { result ≡ shown_from Lower s (path_instants Lower s ++ as_list (window_end s)) }
 {
     if conflict_at_delay(s, start) {
-        return Moment::At(Instant { n: s.delay, m: 1 });
+        return Some(Instant { n: s.delay, m: 1 });
     }
     from_lowest(s, start)
 }
 
 // After the window's start on the upper side. A path that does not approach falls throughout.
-fn from_start(s: SensedQuestion) -> Moment
+fn from_start(s: SensedQuestion) -> Option<Instant>
     requires sized { Sized Upper s }
     requires opened { Opened s × StartTried Upper s }
     ensures { result ≡ shown_from Upper s (as_list (window_end s)) }
 {
     if !approaching(Side::Upper, s) {
-        return Moment::Never;
+        return None;
     }
     from_end(Side::Upper, s)
 }
 
 // The time shown on a side of a window that opens at a start. Between the start and the end only the lower path has instants.
-pub fn time_shown(side: Side, s: SensedQuestion, start: Instant) -> Moment
+pub fn time_shown(side: Side, s: SensedQuestion, start: Instant) -> Option<Instant>
     requires sized { Sized side s }
-    requires s_value { opening s ≡ At start }
+    requires s_value { opening s ≡ Some start }
     ensures { result ≡ time_shown side s }
 {
     if not_beyond(side, s, start.n, start.m) {
-        return Moment::At(start);
+        return Some(start);
     }
     match side {
         Side::Lower => from_delay(s, start),

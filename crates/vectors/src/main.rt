@@ -107,22 +107,22 @@ fn question_in(case: &[u8]) -> Question
 }
 
 // The question, or the refusal of its code.
-fn asked(case: &[u8]) -> CodedQuestion
+fn asked(case: &[u8]) -> Result<Question, Refusal>
     requires { 200 ≤ length case.now }
 {
     if natural_at(case, 128) == 0 {
-        return CodedQuestion::Asked(question_in(case));
+        return Ok(question_in(case));
     }
     coded_question(case[143], number_at(case, 24), number_at(case, 120))
 }
 
-fn answer_to(case: &[u8]) -> Answer
+fn answer_to(case: &[u8]) -> Result<Verdict, Refusal>
     requires { 200 ≤ length case.now }
 {
     let question = asked(case);
     match question {
-        CodedQuestion::Asked(free) => judge(encounter_in(case), settings_in(case), free),
-        CodedQuestion::Refused(number) => Answer::Refused(number),
+        Ok(free) => judge(encounter_in(case), settings_in(case), free),
+        Err(number) => Err(number),
     }
 }
 
@@ -176,10 +176,10 @@ fn verdict_numbers(verdict: Verdict) -> Numbers {
     }
 }
 
-fn answer_numbers(answer: Answer) -> Numbers {
+fn answer_numbers(answer: Result<Verdict, Refusal>) -> Numbers {
     match answer {
-        Answer::Judged(verdict) => verdict_numbers(verdict),
-        Answer::Refused(number) => one_number(68, number),
+        Ok(verdict) => verdict_numbers(verdict),
+        Err(number) => one_number(68, number),
     }
 }
 

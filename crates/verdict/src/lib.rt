@@ -1,12 +1,10 @@
 // The verdict on an accepted question. `specs/` says what it is.
 #![tactic(auto)]
 
-ghost use Rattle.std.specs.Prelude.{◌≡◌, true};
-ghost use Rattle.instant.specs.declared.Moment.TheVariants.{At, Never};
+ghost use Rattle.std.specs.Prelude.{◌≡◌, true, None, Ok, Some};
 ghost use Rattle.path.specs.declared.Side.TheVariants.{Lower, Upper};
 ghost use Rattle.path.specs.inner.Sizes.{Sized};
 ghost use Rattle.path.specs.inner.Tests.{opening};
-ghost use Rattle.question.specs.declared.Checked.TheVariants.{Accepted};
 ghost use Rattle.question.specs.Refusals.{two_sided, refusal};
 ghost use Rattle.sensed.specs.Sensed.{sensed_question};
 ghost use Rattle.verdict.specs.Verdicts.{one_sided_verdict, two_sided_verdict, verdict_of, verdict};
@@ -34,36 +32,36 @@ pub enum Verdict {
     Conflicts(Time, Time),
 }
 
-fn one_sided_verdict(lower: Moment) -> Verdict
+fn one_sided_verdict(lower: Option<Instant>) -> Verdict
     ensures { result ≡ one_sided_verdict lower }
 {
     match lower {
-        Moment::At(t) => Verdict::Conflict(lowest_terms(t.n, t.m)),
-        Moment::Never => Verdict::Clear(ClearSides::Lower),
+        Some(t) => Verdict::Conflict(lowest_terms(t.n, t.m)),
+        None => Verdict::Clear(ClearSides::Lower),
     }
 }
 
-fn two_sided_verdict(lower: Moment, upper: Moment) -> Verdict
+fn two_sided_verdict(lower: Option<Instant>, upper: Option<Instant>) -> Verdict
     ensures { result ≡ two_sided_verdict lower upper }
 {
     match lower {
-        Moment::At(t) => match upper {
-            Moment::At(u) => {
+        Some(t) => match upper {
+            Some(u) => {
                 let second = lowest_terms(u.n, u.m);
                 Verdict::Conflicts(lowest_terms(t.n, t.m), second)
             }
-            Moment::Never => Verdict::Clear(ClearSides::Upper),
+            None => Verdict::Clear(ClearSides::Upper),
         },
-        Moment::Never => match upper {
-            Moment::At(_) => Verdict::Clear(ClearSides::Lower),
-            Moment::Never => Verdict::Clear(ClearSides::Both),
+        None => match upper {
+            Some(_) => Verdict::Clear(ClearSides::Lower),
+            None => Verdict::Clear(ClearSides::Both),
         },
     }
 }
 
 // The verdict where the window is empty.
 fn empty_verdict(question: Question) -> Verdict
-    ensures { result ≡ verdict_of question Never Never }
+    ensures { result ≡ verdict_of question None None }
 {
     if two_sided(question) {
         return Verdict::Clear(ClearSides::Both);
@@ -75,7 +73,7 @@ fn empty_verdict(question: Question) -> Verdict
 fn open_verdict(question: Question, s: SensedQuestion, start: Instant) -> Verdict
     requires sized { Sized Lower s }
     requires sized_2 { two_sided question ≡ true → Sized Upper s }
-    requires s_value { opening s ≡ At start }
+    requires s_value { opening s ≡ Some start }
     ensures { result ≡ verdict question s }
 {
     let lower = time_shown(Side::Lower, s, start);
@@ -88,12 +86,12 @@ fn open_verdict(question: Question, s: SensedQuestion, start: Instant) -> Verdic
 
 // The verdict on an accepted question.
 pub fn verdict_on(encounter: Encounter, settings: Settings, question: Question) -> Verdict
-    requires { refusal encounter settings question ≡ Accepted }
+    requires { refusal encounter settings question ≡ Ok tt }
     ensures { result ≡ verdict question (sensed_question encounter settings question) }
 {
     let s = sensed_question(encounter, settings, question);
     match opening(s) {
-        Moment::Never => empty_verdict(question),
-        Moment::At(start) => open_verdict(question, s, start),
+        None => empty_verdict(question),
+        Some(start) => open_verdict(question, s, start),
     }
 }

@@ -35,14 +35,14 @@ pub fn absolute(x: i64) -> u64
 }
 
 // Is n/m no later than the limit?
-fn in_time(limit: Limit, n: u64, m: u64) -> bool
+fn in_time(limit: Option<u64>, n: u64, m: u64) -> bool
     requires limit_size { LimitSize limit }
     requires in_reach { InReach Lower n m }
     ensures { result ≡ in_time limit n m }
 {
     match limit {
-        Limit::Unlimited => true,
-        Limit::Upto(last) => n <= last * m,
+        None => true,
+        Some(last) => n <= last * m,
     }
 }
 
@@ -76,28 +76,28 @@ pub fn in_window(s: SensedQuestion, n: u64, m: u64) -> bool
 }
 
 // The window's first time: none where the intruder has passed, stands still outside the puck's radius, or comes there after the limit.
-pub fn opening(s: SensedQuestion) -> Moment
+pub fn opening(s: SensedQuestion) -> Option<Instant>
     requires { Sizes s }
     ensures { result ≡ opening s }
 {
     let r = s.distance;
     let p = s.radius as i64;
     if r + p < 0 {
-        return Moment::Never;
+        return None;
     }
     let ahead = positive_part(r - p);
     let c = s.closing_speed;
     if c == 0 {
         if ahead == 0 {
-            return Moment::At(Instant { n: 0, m: 1 });
+            return Some(Instant { n: 0, m: 1 });
         }
-        return Moment::Never;
+        return None;
     }
     let limit = s.limit;
     if in_time(limit, ahead, c) {
-        return Moment::At(Instant { n: ahead, m: c });
+        return Some(Instant { n: ahead, m: c });
     }
-    Moment::Never
+    None
 }
 
 // Where the intruder leaves the puck's radius, for a closing speed above 0.
@@ -112,25 +112,25 @@ fn window_exit(s: SensedQuestion) -> Instant
     Instant { n: n, m: c }
 }
 
-pub fn window_end(s: SensedQuestion) -> Moment
+pub fn window_end(s: SensedQuestion) -> Option<Instant>
     requires { Sizes s }
     ensures { result ≡ window_end s }
 {
     let c = s.closing_speed;
     let limit = s.limit;
     match limit {
-        Limit::Unlimited => {
+        None => {
             if c == 0 {
-                return Moment::Never;
+                return None;
             }
-            Moment::At(window_exit(s))
+            Some(window_exit(s))
         }
-        Limit::Upto(last) => {
+        Some(last) => {
             let end = Instant { n: last, m: 1 };
             if c == 0 {
-                return Moment::At(end);
+                return Some(end);
             }
-            Moment::At(earlier(window_exit(s), end))
+            Some(earlier(window_exit(s), end))
         }
     }
 }

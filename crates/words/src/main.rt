@@ -2,8 +2,7 @@
 // What is said of a record is the reply that `answering::reply_to` gives it: nothing is judged here.
 #![tactic(auto)]
 
-ghost use Rattle.std.specs.Prelude.{◌≡◌, ◌≤◌, nat_abs};
-ghost use Rattle.question.specs.declared.Checked.TheVariants.{Accepted};
+ghost use Rattle.std.specs.Prelude.{◌≡◌, ◌≤◌, nat_abs, Ok};
 ghost use Rattle.record.specs.SheetCheck.{sheet_check};
 
 use answering::{reply_to, starting_state, state_after};
@@ -146,10 +145,10 @@ fn write_verdict(out: &impl Print, verdict: Verdict) -> io::Result<()> {
     }
 }
 
-fn write_answer(out: &impl Print, answer: Answer) -> io::Result<()> {
+fn write_answer(out: &impl Print, answer: Result<Verdict, Refusal>) -> io::Result<()> {
     match answer {
-        Answer::Judged(verdict) => write_verdict(out, verdict),
-        Answer::Refused(number) => {
+        Ok(verdict) => write_verdict(out, verdict),
+        Err(number) => {
             write_number(out, "refused, ", number as u64)?;
             write(out, ": ")?;
             write_record_refusal(out, number)
@@ -339,7 +338,7 @@ fn is_question(given: Record) -> bool {
 fn write_answered(
     out: &impl Print,
     number: usize,
-    answer: Answer,
+    answer: Result<Verdict, Refusal>,
     place: Place,
     given: Record,
     notes: Notes,
@@ -356,23 +355,23 @@ fn write_answered(
     Ok(())
 }
 
-fn met_after(met: Met, number: usize, encounter: Encounter, reply: Reply) -> Met {
+fn met_after(met: Met, number: usize, encounter: Encounter, reply: Option<Result<Verdict, Refusal>>) -> Met {
     match reply {
-        Reply::Silent => Met::Encounter(number, encounter),
-        Reply::Answered(_) => met,
+        None => Met::Encounter(number, encounter),
+        Some(_) => met,
     }
 }
 
 // The number of a record that was refused.
-fn refused_record(number: usize, reply: Reply) -> usize {
+fn refused_record(number: usize, reply: Option<Result<Verdict, Refusal>>) -> usize {
     match reply {
-        Reply::Silent => 0,
-        Reply::Answered(_) => number,
+        None => 0,
+        Some(_) => number,
     }
 }
 
 // The notes after a record of that number, and the reply to it: an encounter or a setting that is accepted gets none.
-fn notes_after(notes: Notes, number: usize, given: Record, reply: Reply) -> Notes {
+fn notes_after(notes: Notes, number: usize, given: Record, reply: Option<Result<Verdict, Refusal>>) -> Notes {
     let met = notes.met;
     let refused = refused_record(number, reply);
     match given {
@@ -413,23 +412,23 @@ fn no_notes() -> Notes {
 fn write_reply(
     out: &impl Print,
     number: usize,
-    reply: Reply,
+    reply: Option<Result<Verdict, Refusal>>,
     place: Place,
     given: Record,
     notes: Notes,
 ) -> io::Result<()> {
     match reply {
-        Reply::Silent => Ok(()),
-        Reply::Answered(answer) => write_answered(out, number, answer, place, given, notes),
+        None => Ok(()),
+        Some(answer) => write_answered(out, number, answer, place, given, notes),
     }
 }
 
-fn answer_count(reply: Reply) -> usize
+fn answer_count(reply: Option<Result<Verdict, Refusal>>) -> usize
     ensures { result ≤ 1 }
 {
     match reply {
-        Reply::Silent => 0,
-        Reply::Answered(_) => 1,
+        None => 0,
+        Some(_) => 1,
     }
 }
 
@@ -441,7 +440,7 @@ fn write_totals(out: &impl Print, records: usize, answers: usize) -> io::Result<
 
 // All records of an accepted sheet, in order.
 fn write_records(out: &impl Print, sheet: &[u8]) -> io::Result<()>
-    requires { sheet_check sheet.now ≡ Accepted }
+    requires { sheet_check sheet.now ≡ Ok tt }
 {
     let mut at: usize = 0;
     let mut records: usize = 0;
@@ -516,8 +515,8 @@ fn write_refused_sheet(out: &impl Print, sheet: &[u8], number: u8) -> io::Result
 
 fn write_sheet(out: &impl Print, sheet: &[u8]) -> io::Result<()> {
     match check_sheet(sheet) {
-        Checked::Refused(number) => write_refused_sheet(out, sheet, number),
-        Checked::Accepted => write_records(out, sheet),
+        Err(number) => write_refused_sheet(out, sheet, number),
+        Ok(()) => write_records(out, sheet),
     }
 }
 

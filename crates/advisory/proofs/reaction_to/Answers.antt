@@ -1,5 +1,6 @@
 -- `advisory::reaction_to` meets its contract. The loop's invariant: the search in the whole table is the search in the rows
 -- from the place on.
+use Rattle.std.specs.Prelude.{Option, Some}
 use mathlib.Core.Path.{◌≡◌, ◌∙◌, sym}
 use mathlib.Core.Bool.{cond}
 use Prim.Native.Nat.{ℕ, suc}
@@ -10,14 +11,12 @@ use lib.Dec.{eqb}
 use lib.ListN.{drop}
 use Rattle.advisory.specs.ReactionTable.{reaction_table, row_at, row_of}
 use Rattle.advisory.specs.declared.Reaction.{Reaction}
-use Rattle.advisory.specs.declared.Reacted.{Reacted}
-use Rattle.advisory.specs.declared.Reacted.TheVariants.{Row}
 use Rattle.advisory.proofs.Rows.{search_row, search_end_lem}
 use Rattle.advisory.proofs.reaction_to.Goals as goal
 
 -- at a row, the search goes on from it: it is the row, or the search in the rows after it
-from_row : (place code : ℕ) {result : Reacted} {r : Reaction} → row_of reaction_table code ≡ row_of (drop place reaction_table) code → result ≡ Row r → result ≡ row_at reaction_table place
-    → row_of reaction_table code ≡ cond (eqb r.code code) (Row r) (row_of (drop (suc place) reaction_table) code)
+from_row : (place code : ℕ) {result : (Option Reaction)} {r : Reaction} → row_of reaction_table code ≡ row_of (drop place reaction_table) code → result ≡ Some r → result ≡ row_at reaction_table place
+    → row_of reaction_table code ≡ cond (eqb r.code code) (Some r) (row_of (drop (suc place) reaction_table) code)
 from_row place code {r} inv is_row ensured = inv ∙ search_row reaction_table place code r (sym is_row ∙ ensured)
 
 pub returns-in_default : goal.returns-in_default
@@ -33,8 +32,8 @@ returns-then-row-code c =
     let called = match in
     let loop = called.loop-place in
     let code = called.args.code in
-    let test = eq-eqb match.in-Row.row.code code c.if-row-code.true in
-    sym (from_row loop.place code loop.invariant.1 match.in-Row.is called.reaction_row.ensures ∙ rw test)
+    let test = eq-eqb match.in-Some.row.code code c.if-row-code.true in
+    sym (from_row loop.place code loop.invariant.1 match.in-Some.is called.reaction_row.ensures ∙ rw test)
 
 pub loop-place-preserved : goal.loop-place-preserved
 loop-place-preserved c =
@@ -42,8 +41,8 @@ loop-place-preserved c =
     let called = match in
     let loop = called.loop-place in
     let code = called.args.code in
-    let test = ne_eqb match.in-Row.row.code code c.if-row-code.false in
-    (omega arith, from_row loop.place code loop.invariant.1 match.in-Row.is called.reaction_row.ensures ∙ rw (test, add-one))
+    let test = ne_eqb match.in-Some.row.code code c.if-row-code.false in
+    (omega arith, from_row loop.place code loop.invariant.1 match.in-Some.is called.reaction_row.ensures ∙ rw (test, add-one))
 
 pub returns : goal.returns
 unfolding reaction_table

@@ -1,4 +1,5 @@
 -- `candidate::judge_flight` meets its contract: refused by the first test that fails, else flown.
+use Rattle.std.specs.Prelude.{Err, Ok, Option, Result, ⊤}
 use mathlib.Core.Path.{◌≡◌, sym, ap, subst, ◌∙◌}
 use mathlib.Core.Bool.{Bool, true}
 use mathlib.Core.List.{List}
@@ -9,34 +10,33 @@ use Rattle.path.specs.inner.Sizes.{Sizes}
 use Rattle.question.specs.declared.Encounter.{Encounter}
 use Rattle.question.specs.declared.Settings.{Settings}
 use Rattle.question.specs.declared.Question.{Question}
-use Rattle.question.specs.declared.Checked.{Checked}
 use Rattle.question.specs.Refusals.{sense_of, refusal}
 use Rattle.sensed.specs.Sensed.{sensed_question}
 use Rattle.sensed.proofs.AcceptedSizes.{accepted_sizes}
 use Rattle.flight.specs.declared.Stretch.{Stretch}
-use Rattle.flight.specs.declared.PuckEntry.{PuckEntry}
 use Rattle.flight.specs.HandedIn.{flight_of, numbers_within}
 use Rattle.flight.specs.SensedFlight.{sensed_flight}
 use Rattle.flight.specs.inner.Tests.{obeys_test, first_inside}
 use Rattle.candidate.specs.declared.OneSidedAdvice.{OneSidedAdvice}
-use Rattle.candidate.specs.declared.FlightAnswer.TheVariants.{Flown}
 use Rattle.candidate.specs.Advice.{asked, flight_refusal}
 use Rattle.candidate.specs.FlightAnswers.{advice_in_sense, flight_in_sense, checked_flight, flight_answer, flight_record}
 use Rattle.candidate.proofs.RefusedAsAsked.{accepted_flight}
 use Rattle.candidate.proofs.judge_flight.Goals as goal
+use Rattle.question.specs.declared.Refusal.{Refusal}
+use Rattle.candidate.specs.declared.Flown.{Flown}
 
 -- what the test k of the flight says, where it accepts: the question that is asked is accepted, and the flight is within its sizes
-passed : (x : Encounter) (y : Settings) (z : OneSidedAdvice) (l : List ℤ) {k : Checked} → k ≡ flight_refusal x y z l → k ≡ Checked.Accepted → (refusal x y (asked z) ≡ Checked.Accepted) × (numbers_within l ≡ true)
+passed : (x : Encounter) (y : Settings) (z : OneSidedAdvice) (l : List ℤ) {k : (Result ⊤ Refusal)} → k ≡ flight_refusal x y z l → k ≡ Ok tt → (refusal x y (asked z) ≡ Ok tt) × (numbers_within l ≡ true)
 passed x y z l says is = accepted_flight x y z l (sym says ∙ is)
 
-accepted : (x : Encounter) (y : Settings) (z : OneSidedAdvice) (l : List ℤ) {q : Question} {k : Checked} → k ≡ flight_refusal x y z l → k ≡ Checked.Accepted → q ≡ asked z → refusal x y q ≡ Checked.Accepted
+accepted : (x : Encounter) (y : Settings) (z : OneSidedAdvice) (l : List ℤ) {q : Question} {k : (Result ⊤ Refusal)} → k ≡ flight_refusal x y z l → k ≡ Ok tt → q ≡ asked z → refusal x y q ≡ Ok tt
 accepted x y z l says is same = ap (refusal x y) same ∙ (passed x y z l says is).0
 
-sized : (x : Encounter) (y : Settings) (z : OneSidedAdvice) (l : List ℤ) {q : Question} {s : SensedQuestion} {k : Checked} → k ≡ flight_refusal x y z l → k ≡ Checked.Accepted → q ≡ asked z → s ≡ sensed_question x y q → Sizes s
+sized : (x : Encounter) (y : Settings) (z : OneSidedAdvice) (l : List ℤ) {q : Question} {s : SensedQuestion} {k : (Result ⊤ Refusal)} → k ≡ flight_refusal x y z l → k ≡ Ok tt → q ≡ asked z → s ≡ sensed_question x y q → Sizes s
 sized x y z l {q} says is same of = subst Sizes (sym of) (accepted_sizes x y q (accepted x y z l says is same))
 
 -- the same question and sense give the same answer
-same-flown : {s s' : SensedQuestion} {w w' : Sense} (l : List Stretch) {o : Bool} {e : PuckEntry} → s ≡ s' → w ≡ w' → o ≡ obeys_test s (sensed_flight w l) → e ≡ first_inside s (sensed_flight w l) → Flown o e ≡ Flown (obeys_test s' (sensed_flight w' l)) (first_inside s' (sensed_flight w' l))
+same-flown : {s s' : SensedQuestion} {w w' : Sense} (l : List Stretch) {o : Bool} {e : (Option ℕ)} → s ≡ s' → w ≡ w' → o ≡ obeys_test s (sensed_flight w l) → e ≡ first_inside s (sensed_flight w l) → Flown o e ≡ Flown (obeys_test s' (sensed_flight w' l)) (first_inside s' (sensed_flight w' l))
 same-flown {s} {s'} {w} {w'} l {o} {e} same sense f g =
     ap (λ (b : Bool). Flown b e) f
     ∙ ap (Flown (obeys_test s (sensed_flight w l))) g
@@ -44,9 +44,9 @@ same-flown {s} {s'} {w} {w'} l {o} {e} same sense f g =
     ∙ ap (λ (v : Sense). Flown (obeys_test s' (sensed_flight v l)) (first_inside s' (sensed_flight v l))) sense
 
 -- the answer by what the tests say
-by_check : (x : Encounter) (y : Settings) (z : OneSidedAdvice) (l : List ℤ) (k : Checked) → flight_refusal x y z l ≡ k → checked_flight k (advice_in_sense x y z) (flight_in_sense z l) ≡ flight_answer x y z l
+by_check : (x : Encounter) (y : Settings) (z : OneSidedAdvice) (l : List ℤ) (k : Result ⊤ Refusal) → flight_refusal x y z l ≡ k → checked_flight k (advice_in_sense x y z) (flight_in_sense z l) ≡ flight_answer x y z l
 unfolding flight_answer
-by_check x y z l k e = ap (λ (j : Checked). checked_flight j (advice_in_sense x y z) (flight_in_sense z l)) (sym e)
+by_check x y z l k e = ap (λ (j : Result ⊤ Refusal). checked_flight j (advice_in_sense x y z) (flight_in_sense z l)) (sym e)
 
 pub sensed_question-s-requires : goal.sensed_question-s-requires
 sensed_question-s-requires c = let z = c.args in accepted z.encounter z.settings z.advice z.flight.now c.check_flight.ensures c.in-Accepted.is c.asked-question.ensures
@@ -76,9 +76,9 @@ returns-in-Accepted c =
     let sense = c.sense_of-w.ensures ∙ ap sense_of c.asked-question.ensures in
     ap flight_record
     (same-flown (flight_of z.flight.now) same sense c.flight_obeys-obeys.ensures c.first_inside-entry.ensures
-    ∙ by_check x y z.advice z.flight.now Checked.Accepted (sym c.check_flight.ensures ∙ c.in-Accepted.is))
+    ∙ by_check x y z.advice z.flight.now (Ok tt) (sym c.check_flight.ensures ∙ c.in-Accepted.is))
 
 pub returns-in-Refused : goal.returns-in-Refused
 returns-in-Refused c =
     let z = c.args in
-    ap flight_record (by_check z.encounter z.settings z.advice z.flight.now (Checked.Refused c.in-Refused.number) (sym c.check_flight.ensures ∙ c.in-Refused.is))
+    ap flight_record (by_check z.encounter z.settings z.advice z.flight.now (Err c.in-Refused.number) (sym c.check_flight.ensures ∙ c.in-Refused.is))

@@ -1,4 +1,5 @@
 -- `screen::screen_point` meets its contract: refused by the first test that fails, else the point of the second.
+use Rattle.std.specs.Prelude.{Err, Ok, Result, ⊤}
 use mathlib.Core.Path.{◌≡◌, sym, ap, subst, ◌∙◌}
 use Prim.Native.Nat.{ℕ}
 use Rattle.path.specs.declared.SensedQuestion.{SensedQuestion}
@@ -6,13 +7,12 @@ use Rattle.path.specs.inner.Sizes.{Sizes}
 use Rattle.question.specs.declared.Encounter.{Encounter}
 use Rattle.question.specs.declared.Settings.{Settings}
 use Rattle.question.specs.declared.Question.{Question}
-use Rattle.question.specs.declared.Checked.{Checked}
 use Rattle.sensed.specs.Sensed.{sensed_question}
 use Rattle.sensed.proofs.AcceptedSizes.{accepted_sizes}
-use Rattle.screen.specs.declared.PointAnswer.{PointAnswer}
 use Rattle.screen.specs.Points.{point_at, point_refusal, checked_point, screen_point}
 use Rattle.screen.proofs.PointChecks.{accepted_point}
 use Rattle.screen.proofs.screen_point.Goals as goal
+use Rattle.question.specs.declared.Refusal.{Refusal}
 
 pub sensed_question-s-requires : goal.sensed_question-s-requires
 sensed_question-s-requires c = let a = c.args in (accepted_point a.encounter a.settings a.question a.second (sym c.in-Accepted.ensures)).0
@@ -26,13 +26,13 @@ pub point_at-requires-clause-second_le_last_second : goal.point_at-requires-clau
 point_at-requires-clause-second_le_last_second c = let a = c.args in (accepted_point a.encounter a.settings a.question a.second (sym c.in-Accepted.ensures)).1
 
 -- the answer by what the check says
-by_check : (x : Encounter) (y : Settings) (z : Question) (t : ℕ) (k : Checked) → k ≡ point_refusal x y z t → checked_point k (point_at (sensed_question x y z) t) ≡ screen_point x y z t
+by_check : (x : Encounter) (y : Settings) (z : Question) (t : ℕ) (k : Result ⊤ Refusal) → k ≡ point_refusal x y z t → checked_point k (point_at (sensed_question x y z) t) ≡ screen_point x y z t
 unfolding screen_point
-by_check x y z t k e = ap (λ (j : Checked). checked_point j (point_at (sensed_question x y z) t)) e
+by_check x y z t k e = ap (λ (j : Result ⊤ Refusal). checked_point j (point_at (sensed_question x y z) t)) e
 
 pub returns-in-Accepted : goal.returns-in-Accepted
 returns-in-Accepted c =
-    ap PointAnswer.Drawn (c.point_at.ensures ∙ ap (λ (q : SensedQuestion). point_at q c.args.second) c.sensed_question-s.ensures) ∙ by_check _ _ _ _ Checked.Accepted c.in-Accepted.ensures
+    ap Ok (c.point_at.ensures ∙ ap (λ (q : SensedQuestion). point_at q c.args.second) c.sensed_question-s.ensures) ∙ by_check _ _ _ _ (Ok tt) c.in-Accepted.ensures
 
 pub returns-in-Refused : goal.returns-in-Refused
-returns-in-Refused c = by_check _ _ _ _ (Checked.Refused c.in-Refused.number) c.in-Refused.ensures
+returns-in-Refused c = by_check _ _ _ _ (Err c.in-Refused.number) c.in-Refused.ensures

@@ -1,4 +1,5 @@
 -- `sensed::sensed_motion` meets its contract: the differences of speeds within their limits fit, and so do these times w, which is +1 or −1.
+use Rattle.std.specs.Prelude.{Ok}
 use mathlib.Core.Path.{◌≡◌, sym, ap, subst, ◌∙◌}
 use lib.IntN.{ℤ, pos, neg_ℤ, ◌-ℤ◌, ◌*ℤ◌}
 use lib.Signed.{le_z_yes}
@@ -12,7 +13,6 @@ use Rattle.question.proofs.WithinLimits.{Between}
 use Rattle.question.specs.declared.Encounter.{Encounter}
 use Rattle.question.specs.declared.Settings.{Settings}
 use Rattle.question.specs.declared.Question.{Question}
-use Rattle.question.specs.declared.Checked.{Checked}
 use Rattle.question.specs.Refusals.{sense_of, refusal}
 use Rattle.sensed.specs.declared.Motion.{Motion}
 use Rattle.sensed.specs.Sensed.{sensed_motion}
@@ -84,7 +84,7 @@ same_motion : {a a' b b' c c' d d' : ℤ} → a ≡ a' → b ≡ b' → c ≡ c'
 same_motion e f g h = cc
 
 -- what the code stores, for a w that is the sense's sign
-is_motion : (x : Encounter) (y : Settings) (q : Question) → refusal x y q ≡ Checked.Accepted → (w : ℤ) → w ≡ sign (sense_of q)
+is_motion : (x : Encounter) (y : Settings) (q : Question) → refusal x y q ≡ Ok tt → (w : ℤ) → w ≡ sign (sense_of q)
     → ◌≡◌ {A = Motion}
     (record { level = stored (stored w *ℤ stored x.height); speed = stored_difference w x.speed x.intruder_speed; target = stored_difference w q.target x.intruder_speed; upper_target = stored_difference w q.upper_target x.intruder_speed })
     (sensed_motion x q)

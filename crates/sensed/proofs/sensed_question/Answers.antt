@@ -1,5 +1,6 @@
 -- `sensed::sensed_question` meets its contract: each field is stored exactly, and each part is the definition's. The upper strength is not negative, so
 -- its cast keeps it.
+use Rattle.std.specs.Prelude.{Ok, Option}
 use mathlib.Core.Path.{◌≡◌, refl, sym, ap, ◌∙◌, subst}
 use Prim.Native.Nat.{ℕ}
 use lib.IntN.{ℤ, pos, nat_abs}
@@ -11,12 +12,10 @@ use borrow.Author.Rules.{rules}
 use Rattle.integers.specs.Extremes.{max0}
 use Rattle.integers.proofs.Certificates.{nat≡}
 use Rattle.integers.proofs.Laws.{max0_same}
-use Rattle.path.specs.declared.Limit.{Limit}
 use Rattle.path.specs.declared.SensedQuestion.{SensedQuestion}
 use Rattle.question.specs.declared.Encounter.{Encounter}
 use Rattle.question.specs.declared.Settings.{Settings}
 use Rattle.question.specs.declared.Question.{Question}
-use Rattle.question.specs.declared.Checked.{Checked}
 use Rattle.question.specs.Refusals.{refusal}
 use Rattle.sensed.specs.declared.Motion.{Motion}
 use Rattle.sensed.specs.Sensed.{limit_of, sensed_motion, sensed_question}
@@ -24,7 +23,7 @@ use Rattle.question.proofs.WithinLimits.{upper_between}
 use Rattle.sensed.proofs.PlainFields.{exact_fields, ExactMotion, exact_motion}
 use Rattle.sensed.proofs.sensed_question.Goals as goal
 
-upper_natural : (x : Encounter) (y : Settings) (z : Question) → refusal x y z ≡ Checked.Accepted → pos 0 ≤ℤ z.upper_strength
+upper_natural : (x : Encounter) (y : Settings) (z : Question) → refusal x y z ≡ Ok tt → pos 0 ≤ℤ z.upper_strength
 upper_natural x y z e = (upper_between x y z e).1.from
 
 pub overflow_cast-result : goal.overflow_cast-result
@@ -32,7 +31,7 @@ overflow_cast-result c =
     let f : SFits w64 c.args.question.upper_strength = search rules in
     rw (to_z-of_z f) (yes_non_neg (upper_natural c.args.encounter c.args.settings c.args.question c.requires), Fits-nat_abs tt f)
 
-same_question : {r r' level level' u u' q q' upper upper' : ℤ} {c c' p p' k k' a a' d d' e e' b b' : ℕ} {l l' : Limit} → r ≡ r' → c ≡ c' → p ≡ p' → k ≡ k' → level ≡ level' → u ≡ u' → q ≡ q' → a ≡ a' → d ≡ d' → e ≡ e' → upper ≡ upper' → b ≡ b' → l ≡ l'
+same_question : {r r' level level' u u' q q' upper upper' : ℤ} {c c' p p' k k' a a' d d' e e' b b' : ℕ} {l l' : (Option ℕ)} → r ≡ r' → c ≡ c' → p ≡ p' → k ≡ k' → level ≡ level' → u ≡ u' → q ≡ q' → a ≡ a' → d ≡ d' → e ≡ e' → upper ≡ upper' → b ≡ b' → l ≡ l'
     → ◌≡◌ {A = SensedQuestion}
     (record { distance = r; closing_speed = c; radius = p; half_height = k; level = level; speed = u; target = q; strength = a; delay = d; delay_acceleration = e; upper_target = upper; upper_strength = b; limit = l })
     (record { distance = r'; closing_speed = c'; radius = p'; half_height = k'; level = level'; speed = u'; target = q'; strength = a'; delay = d'; delay_acceleration = e'; upper_target = upper'; upper_strength = b'; limit = l' })

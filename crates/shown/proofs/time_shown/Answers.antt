@@ -1,10 +1,9 @@
 -- `shown::time_shown` meets its contract: the window's first time has a conflict or not, and the rest is tried from d on, or at the window's end.
+use Rattle.std.specs.Prelude.{Option, Some}
 use mathlib.Core.Path.{◌≡◌, sym, ◌∙◌, subst}
 use mathlib.Core.Bool.{false}
 use mathlib.Core.List.{◌++◌}
 use Rattle.instant.specs.declared.Instant.{Instant}
-use Rattle.instant.specs.declared.Moment.{Moment}
-use Rattle.instant.specs.declared.Moment.TheVariants.{At}
 use Rattle.path.specs.declared.SensedQuestion.{SensedQuestion}
 use Rattle.path.specs.declared.Side.{Side}
 use Rattle.path.specs.declared.Side.TheVariants.{Lower, Upper}
@@ -21,12 +20,12 @@ use Rattle.shown.proofs.OpenWindow.{opened_at, first_tried, first_hit, first_mis
 use Rattle.shown.proofs.time_shown.Goals as goal
 
 -- what is left where the window's first time has none
-record Missed (side : Side) (s : SensedQuestion) (shown : Moment) : Type 0 where
+record Missed (side : Side) (s : SensedQuestion) (shown : Option Instant) : Type 0 where
   sized : Sized side s
   start : StartTried side s
   rest : shown_from side s (path_instants side s ++ as_list (window_end s)) ≡ shown
 
-missed : (side x : Side) (s : SensedQuestion) (start : Instant) → side ≡ x → opening s ≡ At start → Sized side s → not_beyond side s start.n start.m ≡ false → Missed x s (time_shown side s)
+missed : (side x : Side) (s : SensedQuestion) (start : Instant) → side ≡ x → opening s ≡ Some start → Sized side s → not_beyond side s start.n start.m ≡ false → Missed x s (time_shown side s)
 missed side x s start is e z n =
     subst (λ (x : Side). Missed x s (time_shown side s)) is (record { sized = z; start = first_tried s start e side n; rest = first_miss s start e side n })
 

@@ -1,10 +1,10 @@
 -- `shown::turning_instant` meets its contract: -u_d fits, and the numerator is small.
+use Rattle.std.specs.Prelude.{Some}
 use mathlib.Core.Path.{◌≡◌, ap, ◌∙◌}
 use Prim.Native.Nat.{ℕ, ◌+◌, ◌*◌}
 use lib.IntN.{neg_ℤ}
 use Rattle.integers.specs.Extremes.{max0}
 use Rattle.integers.proofs.Machine.{bounded, machine, failed, plain_terms, plain_call}
-use Rattle.instant.specs.declared.Moment.TheVariants.{At}
 use Rattle.instant.specs.Order.{◌÷◌}
 use Rattle.path.specs.declared.Side.TheVariants.{Lower}
 use Rattle.path.specs.Paths.{u_d}
@@ -19,4 +19,4 @@ returns c =
     let q = bounded s.target max_speed_difference c.requires.q_lo c.requires.q_hi in
     let v = read_speed_after_delay s c.requires Lower c.speed_after_delay-speed.ensures in
     let back : c.positive_part-back.result ≡ max0 (neg_ℤ (u_d s)) = plain_call c.positive_part-back.ensures (search plain_terms depth 20) tt ∙ zero_minus (u_d s) in
-    ap (λ (n : ℕ). At (s.delay * s.strength + n ÷ s.strength)) back ∙ turning s.strength s.delay (u_d s) s.target (failed c.if-q-lt0.false (search machine) tt)
+    ap (λ (n : ℕ). Some (s.delay * s.strength + n ÷ s.strength)) back ∙ turning s.strength s.delay (u_d s) s.target (failed c.if-q-lt0.false (search machine) tt)

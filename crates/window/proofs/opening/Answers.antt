@@ -1,4 +1,5 @@
 -- `window::opening` meets its contract: r + p and r - p fit, and each branch is a case of `FirstTime`.
+use Rattle.std.specs.Prelude.{None, Some}
 use mathlib.Core.Path.{◌≡◌, sym, ap, ap₂, ◌∙◌, subst}
 use mathlib.Core.Bool.{Bool, cond}
 use Prim.Native.Nat.{ℕ}
@@ -6,7 +7,6 @@ use lib.IntN.{pos, ◌+ℤ◌, ◌-ℤ◌}
 use lib.Signed.{◌≤ℤ◌}
 use Rattle.integers.specs.Extremes.{max0}
 use Rattle.integers.proofs.Machine.{passed, failed, plain_call}
-use Rattle.instant.specs.declared.Moment.TheVariants.{At, Never}
 use Rattle.instant.specs.Order.{◌÷◌}
 use Rattle.path.specs.declared.SensedQuestion.{SensedQuestion}
 use Rattle.path.specs.declared.Side.TheVariants.{Lower}
@@ -38,9 +38,9 @@ in_time-requires-clause-in_reach c =
     subst (λ (n : ℕ). InReach Lower n s.closing_speed) (sym (plain_call c.positive_part-ahead.ensures (search numbers depth 20) tt)) (moving_start_near s z c.if-c-eq0.false)
 
 -- for c above 0: what the limit's test answers
-decided : (s : SensedQuestion) (ahead : ℕ) (held : Bool) → ahead ≡ max0 (r s -ℤ pos (p s)) → held ≡ in_time s.limit ahead s.closing_speed → (s.closing_speed ≡ 0 → ⊥) → pos 0 ≤ℤ (r s +ℤ pos (p s)) → cond held (At (ahead ÷ s.closing_speed)) Never ≡ opening s
+decided : (s : SensedQuestion) (ahead : ℕ) (held : Bool) → ahead ≡ max0 (r s -ℤ pos (p s)) → held ≡ in_time s.limit ahead s.closing_speed → (s.closing_speed ≡ 0 → ⊥) → pos 0 ≤ℤ (r s +ℤ pos (p s)) → cond held (Some (ahead ÷ s.closing_speed)) None ≡ opening s
 decided s ahead held e h moving near =
-    ap₂ (λ (held : Bool) (n : ℕ). cond held (At (n ÷ s.closing_speed)) Never) (h ∙ ap (λ (n : ℕ). in_time s.limit n s.closing_speed) e) e
+    ap₂ (λ (held : Bool) (n : ℕ). cond held (Some (n ÷ s.closing_speed)) None) (h ∙ ap (λ (n : ℕ). in_time s.limit n s.closing_speed) e) e
     ∙ moving_opening s moving near
 
 pub returns-then-in_time : goal.returns-then-in_time
