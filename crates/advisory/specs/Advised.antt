@@ -1,6 +1,5 @@
 -- Catalogue and reaction table together: what a code advises.
-use Rattle.std.proofs.Math.Option.{Option, none, some}
-use Rattle.std.specs.Prelude.{ℕ, Err, None, Ok, Result, Some}
+use Rattle.std.specs.Prelude.{ℕ, Option, Some, None, Result, Ok, Err}
 use Rattle.advisory.specs.Catalogue.{catalogue_of}
 use Rattle.advisory.specs.ReactionTable.{reaction_table, row_of}
 use Rattle.advisory.specs.declared.Advice.{Advice}
@@ -17,8 +16,7 @@ instruction advice row =
 abbrev pub together : Result Advice CodeError → Option Reaction → Result Instruction CodeError
 together (Ok advice) (Some row) = Ok (instruction advice row)
 together (Ok advice) None = Err CodeError.Unknown
-together (Err CodeError.NotJudged) reacted = Err CodeError.NotJudged
-together (Err CodeError.Unknown) reacted = Err CodeError.Unknown
+together (Err why) reacted = Err why
 
 -- What a code advises.
 unfoldable pub advised_of : ℕ → Result Instruction CodeError
@@ -26,6 +24,5 @@ advised_of code = together (catalogue_of code) (row_of reaction_table code)
 
 -- The instruction of a judged code.
 abbrev pub instruction_in : Result Instruction CodeError → Option Instruction
-instruction_in (Ok i) = some i
-instruction_in (Err CodeError.NotJudged) = none
-instruction_in (Err CodeError.Unknown) = none
+instruction_in (Ok i) = Some i
+instruction_in (Err why) = None

@@ -28,10 +28,9 @@ pub struct Advice {
     pub target: Target,
 }
 
-// What the catalogue says of a code.
-#[derive(Clone, Copy)]
-pub enum Listing {
-    Article(Advice),
+// Why a code is not judged.
+#[derive(Clone, Copy, PartialEq, Eq)]
+pub enum CodeError {
     // Named, and never judged: COC and MTLO.
     NotJudged,
     Unknown,
@@ -45,13 +44,6 @@ pub struct Reaction {
     pub delay: u64,
 }
 
-// What a look-up in the reaction table finds.
-#[derive(Clone, Copy)]
-pub enum Reacted {
-    Row(Reaction),
-    Missing,
-}
-
 // All that a judged code tells the pilot.
 #[derive(Clone, Copy)]
 pub struct Instruction {
@@ -59,14 +51,6 @@ pub struct Instruction {
     pub target: Target,
     pub strength: u64,
     pub delay: u64,
-}
-
-// What a code byte advises.
-#[derive(Clone, Copy)]
-pub enum Advised {
-    Judged(Instruction),
-    NotJudged,
-    Unknown,
 }
 
 // Odd codes descend, even codes climb.
@@ -234,24 +218,16 @@ pub fn reaction_to(code: u8) -> Option<Reaction>
 }
 
 // Sense, target, strength and delay of a judged code. Each article code has its row, so a row is never missing here.
+#[tactic(auto, unfolding(crate::specs::Advised::advised_of))]
 pub fn advise(code: u8) -> Result<Instruction, CodeError>
     ensures { result ≡ advised_of code }
 {
-    match catalogue(code) {
-        Ok(advice) => match reaction_to(code) {
-            Some(row) => {
-                let sense = advice.sense;
-                let target = advice.target;
-                Ok(Instruction {
-                    sense,
-                    target,
-                    strength: row.strength,
-                    delay: row.delay,
-                })
-            }
-            None => Err(CodeError::Unknown),
-        },
-        Err(CodeError::NotJudged) => Err(CodeError::NotJudged),
-        Err(CodeError::Unknown) => Err(CodeError::Unknown),
-    }
+    let advice = catalogue(code)?;
+    let row = reaction_to(code).ok_or(CodeError::Unknown)?;
+    Ok(Instruction {
+        sense: advice.sense,
+        target: advice.target,
+        strength: row.strength,
+        delay: row.delay,
+    })
 }

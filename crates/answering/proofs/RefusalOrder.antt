@@ -34,7 +34,7 @@ use Rattle.answering.specs.declared.State.{State}
 use Rattle.answering.specs.States.{StoredEncounterWithin, StoredWithin}
 use Rattle.answering.specs.Replies.{asked_answer, coded_answer, free_answer, code_from, coded_checks, free_checks, refusal_in}
 use Rattle.advisory.specs.declared.CodeError.{CodeError}
-use Rattle.question.specs.declared.Refusal.{Refusal}
+use Rattle.question.specs.declared.refusal.Refusal.{Refusal}
 
 -- ---- tests that hold
 truth : (b : Bool) → T b → b ≡ true

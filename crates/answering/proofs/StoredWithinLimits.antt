@@ -13,7 +13,7 @@ use Rattle.record.specs.declared.Record.TheVariants.{Encounter, Puck, DelayAccel
 use Rattle.answering.specs.declared.State.{State}
 use Rattle.answering.specs.States.{starting_state, with_puck, with_delay_acceleration, with_settings, with_encounter, state_after, state_after_all, StoredWithin}
 use Rattle.answering.specs.Replies.{settings_reply, reply_to}
-use Rattle.question.specs.declared.Refusal.{Refusal}
+use Rattle.question.specs.declared.refusal.Refusal.{Refusal}
 use Rattle.verdict.specs.declared.Verdict.{Verdict}
 
 passed : {b : Bool} → b ≡ true → T b

@@ -10,7 +10,7 @@ use Rattle.judge.specs.Answers.{answer}
 use Rattle.record.specs.declared.Record.{Record}
 use Rattle.answering.specs.declared.State.{State}
 use Rattle.answering.specs.States.{with_puck, with_delay_acceleration}
-use Rattle.question.specs.declared.Refusal.{Refusal}
+use Rattle.question.specs.declared.refusal.Refusal.{Refusal}
 use Rattle.verdict.specs.declared.Verdict.{Verdict}
 
 -- "Accepted settings write nothing"; others get their number.

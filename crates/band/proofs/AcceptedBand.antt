@@ -37,7 +37,7 @@ use Rattle.judge.proofs.Demand3.{judged, two_sided_exactly}
 use Rattle.band.specs.Band.{lower_height, upper_height, NoHigher, AlwaysOutside, SaysClear}
 use Rattle.band.proofs.PathOrder as order
 use Rattle.band.proofs.BandTheorem.{outside_exactly}
-use Rattle.question.specs.declared.Refusal.{Refusal}
+use Rattle.question.specs.declared.refusal.Refusal.{Refusal}
 
 clear_no_conflict : (v : Verdict) → SaysClear (Ok v) ↔ (¬ SaysConflict v)
 clear_no_conflict (Clear sides) = (λ _ c. c, λ _. tt)

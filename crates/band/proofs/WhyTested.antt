@@ -26,7 +26,7 @@ use Rattle.question.specs.declared.Question.{Question}
 use Rattle.question.specs.Refusals.{refusal}
 use Rattle.sensed.specs.Sensed.{sensed_question}
 use Rattle.band.specs.Band.{lowered, raised, Below, Above, Outside, AlwaysOutside}
-use Rattle.question.specs.declared.Refusal.{Refusal}
+use Rattle.question.specs.declared.refusal.Refusal.{Refusal}
 
 abbrev pub above_7 : Encounter
 above_7 = record { distance = pos 0; height = pos 7; closing_speed = pos 0; speed = pos 0; intruder_speed = pos 0 }

@@ -23,7 +23,7 @@ use Rattle.question.specs.Refusals.{refusal}
 use Rattle.sensed.specs.Sensed.{sensed_question}
 use Rattle.band.specs.Band.{lowered, raised, Outside}
 use Rattle.band.proofs.WhyTested.{climb_to_10, Fails}
-use Rattle.question.specs.declared.Refusal.{Refusal}
+use Rattle.question.specs.declared.refusal.Refusal.{Refusal}
 
 -- ---- √2 is no fraction: n² = 2*m² has a solution with smaller numbers
 halves : (n : ℕ) → (h : ℕ) × ((n ≡ h + h) ⊎ (n ≡ suc (h + h)))

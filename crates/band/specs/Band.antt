@@ -6,7 +6,7 @@ use Rattle.path.specs.Letters.{p, k, wh, a, b}
 use Rattle.path.specs.Paths.{lower_path, upper_path}
 use Rattle.path.specs.Window.{InTime, distance_at}
 use Rattle.verdict.specs.declared.Verdict.TheVariants.{Clear, Conflict, Conflicts}
-use Rattle.question.specs.declared.Refusal.{Refusal}
+use Rattle.question.specs.declared.refusal.Refusal.{Refusal}
 use Rattle.verdict.specs.declared.Verdict.{Verdict}
 
 -- A height in grains as a fraction: a whole number over a divisor, which is positive where m, a and b are.

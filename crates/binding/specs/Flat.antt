@@ -8,7 +8,7 @@ use Rattle.verdict.specs.declared.Verdict.TheVariants.{Clear, Conflict, Conflict
 use Rattle.judge.specs.Answers.{sides_number}
 use Rattle.binding.specs.declared.JudgeResult.{JudgeResult}
 use Rattle.binding.specs.declared.SheetResult.{SheetResult}
-use Rattle.question.specs.declared.Refusal.{Refusal}
+use Rattle.question.specs.declared.refusal.Refusal.{Refusal}
 
 -- The number is, in kind 65, "1 lower side clear, 2 upper, 3 both", and in kind 68 "the refusal number".
 abbrev pub with_times : ℕ → ℕ → Time → Time → JudgeResult

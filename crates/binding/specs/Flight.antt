@@ -2,7 +2,7 @@
 use Rattle.std.specs.Prelude.{ℕ, Err, None, Option, Result, Some}
 use Rattle.candidate.specs.FlightAnswers.{yes_number}
 use Rattle.binding.specs.declared.FlightResult.{FlightResult}
-use Rattle.question.specs.declared.Refusal.{Refusal}
+use Rattle.question.specs.declared.refusal.Refusal.{Refusal}
 use Rattle.candidate.specs.declared.Flown.{Flown}
 
 -- never inside, or inside first in the second n

@@ -8,7 +8,7 @@ use Rattle.screen.specs.Drawings.{Content, refused, drawn}
 use Rattle.binding.specs.declared.PieceResult.{PieceResult}
 use Rattle.binding.specs.declared.DrawingResult.{DrawingResult}
 use Rattle.binding.specs.declared.PointResult.{PointResult}
-use Rattle.question.specs.declared.Refusal.{Refusal}
+use Rattle.question.specs.declared.refusal.Refusal.{Refusal}
 use Rattle.screen.specs.declared.ScreenPoint.{ScreenPoint}
 
 -- +0

@@ -7,7 +7,7 @@ use native.Mathlib.Omega.{arith}
 use lib.ListN.{get_or}
 use Rattle.judge.specs.Answers.{AnswerRecord}
 use Rattle.candidate.specs.FlightAnswers.{yes_number, flight_record}
-use Rattle.question.specs.declared.Refusal.{Refusal}
+use Rattle.question.specs.declared.refusal.Refusal.{Refusal}
 use Rattle.candidate.specs.declared.Flown.{Flown}
 
 kind : {a b : AnswerRecord} → a ≡ b → a.kind ≡ b.kind

@@ -15,7 +15,7 @@ use Rattle.refusals.proofs.TestedInOrder.{accepted_first, refused_first, both_ac
 use Rattle.flight.specs.HandedIn.{numbers_within}
 use Rattle.candidate.specs.declared.OneSidedAdvice.{OneSidedAdvice}
 use Rattle.candidate.specs.Advice.{asked, advice_checks, flight_refusal}
-use Rattle.question.specs.declared.Refusal.{Refusal}
+use Rattle.question.specs.declared.refusal.Refusal.{Refusal}
 
 -- what a one-sided question is not asked for
 not_asked : (b : Bool) → (b && true) ≡ b

@@ -8,7 +8,7 @@ use Rattle.question.specs.declared.Question.{Question}
 use Rattle.question.specs.Refusals.{is_number, encounter_within, puck_within, delay_acceleration_within, Check, check, first_refusal}
 use Rattle.flight.specs.HandedIn.{numbers_within}
 use Rattle.candidate.specs.declared.OneSidedAdvice.{OneSidedAdvice}
-use Rattle.question.specs.declared.Refusal.{Refusal}
+use Rattle.question.specs.declared.refusal.Refusal.{Refusal}
 
 -- the same advice as a question for the judge: one-sided, so both upper fields are 0
 abbrev pub asked : OneSidedAdvice → Question

@@ -13,7 +13,7 @@ use Rattle.flight.specs.SensedFlight.{sensed_flight}
 use Rattle.flight.specs.inner.Tests.{obeys_test, first_inside}
 use Rattle.candidate.specs.declared.OneSidedAdvice.{OneSidedAdvice}
 use Rattle.candidate.specs.Advice.{asked, flight_refusal}
-use Rattle.question.specs.declared.Refusal.{Refusal}
+use Rattle.question.specs.declared.refusal.Refusal.{Refusal}
 use Rattle.candidate.specs.declared.Flown.{Flown}
 
 -- the advice in its sense, and the flight in that sense

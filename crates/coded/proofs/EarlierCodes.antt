@@ -19,7 +19,7 @@ use Rattle.advisory.specs.ReactionTable.{reaction_table}
 use Rattle.advisory.specs.Advised.{advised_of}
 use Rattle.coded.specs.Coded.{instructed, maintainable, asked, coded_question}
 use Rattle.advisory.specs.declared.CodeError.{CodeError}
-use Rattle.question.specs.declared.Refusal.{Refusal}
+use Rattle.question.specs.declared.refusal.Refusal.{Refusal}
 use Rattle.question.specs.declared.Question.{Question}
 
 -- ---- the earlier rule: "8 code outside 1 to 18; 9 code 17 or 18", and every other code is asked

@@ -7,8 +7,9 @@ use Rattle.advisory.specs.declared.Instruction.{Instruction}
 use Rattle.advisory.specs.Catalogue.{rate_of}
 use Rattle.advisory.specs.Advised.{advised_of}
 use Rattle.question.specs.declared.Question.{Question}
+use Rattle.question.specs.RefusalNumbers.{code_refusal}
 use Rattle.advisory.specs.declared.CodeError.{CodeError}
-use Rattle.question.specs.declared.Refusal.{Refusal}
+use Rattle.question.specs.declared.refusal.Refusal.{Refusal}
 
 -- "sense 0 descend or 1 climb"
 abbrev pub sense_number : Sense → ℤ
@@ -35,8 +36,7 @@ maintainable code v = (not (eqb code 10) || le_z (pos 0) v) && (not (eqb code 9)
 -- "8 code outside 1 to 18; 9 code 17 or 18"; "It refuses these with 17, after 9 and before 6."
 abbrev pub asked : ℕ → Result Instruction CodeError → ℤ → ℤ → Result Question Refusal
 asked code (Ok i) v limit = cond (maintainable code v) (Ok (instructed i v limit)) (Err Refusal.NeverIssued)
-asked code (Err CodeError.NotJudged) v limit = Err Refusal.CodeNotJudged
-asked code (Err CodeError.Unknown) v limit = Err Refusal.CodeUnknown
+asked code (Err why) v limit = Err (code_refusal why)
 
 unfoldable pub coded_question : ℕ → ℤ → ℤ → Result Question Refusal
 unfolding advised_of

@@ -22,7 +22,7 @@ use Rattle.binding.specs.Flat.{flat_answer, flat_outcome}
 use Rattle.demands.specs.PlainAnswer.{record_in, RightlyExported}
 use Rattle.demands.specs.Sheets.{outcome_in}
 use Rattle.demands.proofs.PlainAnswers.{answer_right}
-use Rattle.question.specs.declared.Refusal.{Refusal}
+use Rattle.question.specs.declared.refusal.Refusal.{Refusal}
 use Rattle.verdict.specs.declared.Verdict.{Verdict}
 
 -- ---- an answer

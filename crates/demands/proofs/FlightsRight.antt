@@ -36,7 +36,7 @@ use Rattle.binding.specs.declared.FlightResult.{FlightResult}
 use Rattle.binding.specs.Flight.{flat_flight}
 use Rattle.demands.specs.Flights.{RightlyFlown, ClearKeepsOut, flight_in}
 use Rattle.demands.proofs.ScreenExported.{first_number}
-use Rattle.question.specs.declared.Refusal.{Refusal}
+use Rattle.question.specs.declared.refusal.Refusal.{Refusal}
 use Rattle.candidate.specs.declared.Flown.{Flown}
 
 -- a flown flight was accepted, and the answer is that of the tests

@@ -16,7 +16,7 @@ use Rattle.answering.specs.States.{StoredWithin}
 use Rattle.answering.specs.Replies.{asked_answer, coded_answer, code_from, coded_checks, refusal_in}
 use Rattle.answering.proofs.RefusalOrder.{coded_order}
 use Rattle.demands.specs.Maintain.{NeverIssued, MaintainAnswered}
-use Rattle.question.specs.declared.Refusal.{Refusal}
+use Rattle.question.specs.declared.refusal.Refusal.{Refusal}
 use Rattle.question.specs.declared.Question.{Question}
 
 -- 17 is its own test's number

@@ -31,7 +31,7 @@ use Rattle.band.proofs.AcceptedBand.{clear_outside_band}
 use Rattle.demands.specs.Demand2.{Demand2}
 use Rattle.demands.specs.Demand3.{WithinLimit, NotStrictlyBeyond, ConflictAt, SomeConflict, ConflictOnEachSide, SaysConflict, Shown, Said}
 use Rattle.demands.specs.PlainAnswer.{JudgedAs, RightlyAnswered}
-use Rattle.question.specs.declared.Refusal.{Refusal}
+use Rattle.question.specs.declared.refusal.Refusal.{Refusal}
 
 -- ---- conflict times spelled out
 limited : (l : Option ℕ) (n m : ℕ) → InTime l n m ↔ WithinLimit l n m

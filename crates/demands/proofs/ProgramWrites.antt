@@ -13,7 +13,7 @@ use Rattle.program.proofs.ReadEnough.{refused_output}
 use Rattle.demands.specs.Sheets.{EachRecord}
 use Rattle.demands.specs.Program.{Written}
 use Rattle.demands.proofs.SheetAnswers.{each}
-use Rattle.question.specs.declared.Refusal.{Refusal}
+use Rattle.question.specs.declared.refusal.Refusal.{Refusal}
 
 answered_output : (sheet : List ℕ) → sheet_check sheet ≡ Ok tt → program_output sheet ≡ sheet_answer sheet
 unfolding program_output

@@ -27,7 +27,7 @@ use Rattle.binding.specs.declared.PointResult.{PointResult}
 use Rattle.binding.specs.Screen.{with_time, flat_piece, flat_content, flat_point}
 use Rattle.demands.specs.Screen.{piece_in, content_in, point_in, RightlyDrawn, RightlyPlaced}
 use Rattle.demands.proofs.ScreenRight.{at_most_three, drawing_right, point_right}
-use Rattle.question.specs.declared.Refusal.{Refusal}
+use Rattle.question.specs.declared.refusal.Refusal.{Refusal}
 
 -- ---- the refusals' numbers
 abbrev pub numbered : List Check → Bool

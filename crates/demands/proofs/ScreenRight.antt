@@ -43,7 +43,7 @@ use Rattle.screen.specs.RightScreen.{IsStraight, ExactPiece, ExactOnTheWay, Righ
 use Rattle.screen.proofs.Evaluation.{evaluated_exact}
 use Rattle.screen.proofs.DrawnPath.{exact_piece, accepted_second, second_above, refused_second, refused_drawing}
 use Rattle.demands.specs.Screen.{HasCoefficients, BeforeNext, HasLength, DrawsStretch, EachDraws, StartsAt, later_times, rule_changes, Kept, DrawsPath, RightlyDrawn, OnPath, RightlyPlaced}
-use Rattle.question.specs.declared.Refusal.{Refusal}
+use Rattle.question.specs.declared.refusal.Refusal.{Refusal}
 use Rattle.screen.specs.declared.ScreenPoint.{ScreenPoint}
 
 -- ---- the time shown of n/m

@@ -39,7 +39,7 @@ use Rattle.demands.specs.PlainAnswer.{RightlyAnswered}
 use Rattle.demands.specs.Sheets.{AnsweredBy, FreeAnswered, CodedAnswered, EachRecord, SheetAnswered}
 use Rattle.demands.proofs.PlainAnswers.{answer_right}
 use Rattle.demands.proofs.MaintainAnswers.{maintain_answered}
-use Rattle.question.specs.declared.Refusal.{Refusal}
+use Rattle.question.specs.declared.refusal.Refusal.{Refusal}
 use Rattle.verdict.specs.declared.Verdict.{Verdict}
 
 -- ---- a record in its place

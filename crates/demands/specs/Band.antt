@@ -9,7 +9,7 @@ use Rattle.band.specs.Band.{lower_height, upper_height, NoHigher, AlwaysOutside,
 use Rattle.band.proofs.AcceptedBand as accepted
 use Rattle.band.proofs.WhyTested as why
 use Rattle.band.proofs.WhyThick as thick
-use Rattle.question.specs.declared.Refusal.{Refusal}
+use Rattle.question.specs.declared.refusal.Refusal.{Refusal}
 use Rattle.verdict.specs.declared.Verdict.{Verdict}
 
 -- "a two-sided question is clear exactly if at every rational time of the window the intruder's sensed height is outside that band"

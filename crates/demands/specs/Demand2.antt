@@ -2,7 +2,7 @@
 -- advisories have Table 1's sense, target, strength and delay; catalogue and reaction table list identical codes.
 use Rattle.std.specs.Prelude.{◌≡◌, ◌↔◌, ℕ, ◌*◌, ◌<◌, pos, Result, Some}
 use mathlib.Core.List.{map, Memᴰ}
-use Rattle.std.proofs.Math.Option.{some}
+use Rattle.std.specs.Prelude.{Some}
 use Rattle.advisory.specs.declared.Instruction.{Instruction}
 use Rattle.advisory.specs.declared.Reaction.{Reaction}
 use Rattle.advisory.specs.Catalogue.{article_entries, Named, not_judged, Listed, CodeWithin}
@@ -20,7 +20,7 @@ use Rattle.judge.specs.Answers.{answer_record}
 use Rattle.region.specs.Formula.{Formula, Says}
 use Rattle.region.specs.Regions.{L_expl, D_expl}
 use Rattle.region.specs.JudgedRegion.{clear_record, advisory_region}
-use Rattle.question.specs.declared.Refusal.{Refusal}
+use Rattle.question.specs.declared.refusal.Refusal.{Refusal}
 use Rattle.verdict.specs.declared.Verdict.{Verdict}
 
 -- the answer is "clear" exactly in a region
@@ -35,7 +35,7 @@ pub record Demand2 (x : Encounter) (y : Settings) (z : Question) (answer : Resul
 -- a question by one of the sixteen codes without a limit: Figure 5 with the columns of the code's line in Table 1
 pub record CodeDemand2 (x : Encounter) (y : Settings) (code : ℕ) (answer : Result Verdict Refusal) : Type 0 where
   pub line : Instruction
-  pub in_table_1 : printed_at code ≡ some line
+  pub in_table_1 : printed_at code ≡ Some line
   pub figure_5 : ClearIn answer (advisory_region x y line)
 
 -- ---- the tables

@@ -15,7 +15,7 @@ use Rattle.candidate.specs.Advice.{asked, advice_checks, flight_refusal}
 use Rattle.candidate.specs.FlightAnswers.{advice_in_sense, flight_in_sense}
 use Rattle.candidate.proofs.RefusedAsAsked as advice
 use Rattle.binding.specs.declared.FlightResult.{FlightResult}
-use Rattle.question.specs.declared.Refusal.{Refusal}
+use Rattle.question.specs.declared.refusal.Refusal.{Refusal}
 use Rattle.candidate.specs.declared.Flown.{Flown}
 
 -- "Say whether it obeys a one-sided advice", over every rational time; "Say also whether it is inside the puck .., and if so the least whole number of seconds n"

@@ -4,7 +4,7 @@ use Rattle.question.specs.declared.Encounter.{Encounter}
 use Rattle.question.specs.declared.Settings.{Settings}
 use Rattle.coded.proofs.EarlierCodes.{earlier_question}
 use Rattle.answering.specs.Replies.{asked_answer, refusal_in}
-use Rattle.question.specs.declared.Refusal.{Refusal}
+use Rattle.question.specs.declared.refusal.Refusal.{Refusal}
 use Rattle.verdict.specs.declared.Verdict.{Verdict}
 
 -- "MCL with v < 0 and MDES with v > 0 can no longer be judged; v = 0 can." MCL is code 10, MDES code 9.

@@ -13,7 +13,7 @@ use Rattle.binding.specs.declared.JudgeResult.{JudgeResult}
 use Rattle.demands.specs.Demand2.{Demand2}
 use Rattle.demands.specs.Demand3.{Demand3}
 use Rattle.demands.specs.Band.{ClearOutsideBand}
-use Rattle.question.specs.declared.Refusal.{Refusal}
+use Rattle.question.specs.declared.refusal.Refusal.{Refusal}
 
 -- accepted: judged as demand 3 asks
 abbrev pub JudgedAs : Encounter → Settings → Question → Result Verdict Refusal → Type 0

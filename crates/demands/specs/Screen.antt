@@ -24,7 +24,7 @@ use Rattle.screen.specs.RightScreen.{ExactOnTheWay}
 use Rattle.binding.specs.declared.PieceResult.{PieceResult}
 use Rattle.binding.specs.declared.DrawingResult.{DrawingResult}
 use Rattle.binding.specs.declared.PointResult.{PointResult}
-use Rattle.question.specs.declared.Refusal.{Refusal}
+use Rattle.question.specs.declared.refusal.Refusal.{Refusal}
 
 -- a 64-bit float whose value is exactly the whole number z: z's own float, so that 0 is +0
 abbrev pub IsFloat : Float → ℤ → Type 0

@@ -25,7 +25,7 @@ use Rattle.binding.specs.declared.SheetResult.{SheetResult}
 use Rattle.demands.specs.Demand2.{CodeDemand2}
 use Rattle.demands.specs.Maintain.{NeverIssued, MaintainAnswered}
 use Rattle.demands.specs.PlainAnswer.{RightlyAnswered}
-use Rattle.question.specs.declared.Refusal.{Refusal}
+use Rattle.question.specs.declared.refusal.Refusal.{Refusal}
 use Rattle.verdict.specs.declared.Verdict.{Verdict}
 
 -- ---- a record of a sheet: `earlier` are the records before it, `later` those after it

@@ -73,21 +73,17 @@ fn short_gcd(a: u32, b: u32) -> u32
 fn common_divisor(a: u64, b: u64) -> u64
     ensures { result ≡ gcd a b }
 {
-    if a <= 4294967295 {
-        if b <= 4294967295 {
-            return short_gcd(a as u32, b as u32) as u64;
-        }
+    match (u32::try_from(a), u32::try_from(b)) {
+        (Ok(short_a), Ok(short_b)) => u64::from(short_gcd(short_a, short_b)),
+        _ => gcd(a, b),
     }
-    gcd(a, b)
 }
 
 // How many factors of two a and b share; a 0 counts as 64 of them.
 fn shared_twos(a: u64, b: u64) -> u32
     ensures { result ≡ min (count_trailing_zeros 64 a) (count_trailing_zeros 64 b) }
 {
-    let in_a = u64::trailing_zeros(a);
-    let in_b = u64::trailing_zeros(b);
-    if in_a < in_b { in_a } else { in_b }
+    a.trailing_zeros().min(b.trailing_zeros())
 }
 
 // The time n/m in lowest terms; three zeros, which are no time, where m is 0.
@@ -110,13 +106,13 @@ pub fn lowest_terms(n: u64, m: u64) -> Time
     let common = common_divisor(denominator, numerator);
     if common == 1 {
         return Time {
-            seconds: seconds,
+            seconds,
             remainder: numerator,
             divisor: denominator,
         };
     }
     Time {
-        seconds: seconds,
+        seconds,
         remainder: numerator / common,
         divisor: denominator / common,
     }

@@ -9,7 +9,7 @@ use Rattle.instant.specs.declared.Time.{Time}
 use Rattle.verdict.specs.declared.ClearSides.{ClearSides}
 use Rattle.verdict.specs.declared.Verdict.TheVariants.{Clear, Conflict, Conflicts}
 use Rattle.judge.specs.Answers.{AnswerRecord, sides_number, answer_record}
-use Rattle.question.specs.declared.Refusal.{Refusal}
+use Rattle.question.specs.declared.refusal.Refusal.{Refusal}
 use Rattle.verdict.specs.declared.Verdict.{Verdict}
 
 -- a record's value at a place

@@ -27,7 +27,7 @@ use Rattle.judge.specs.Answers.{checked_answer, answer, answer_record}
 use Rattle.judge.specs.Demand3.{ShownTime, RightOneSided, RightTwoSided, RightVerdict, RightAnswer, SaysConflict}
 use Rattle.judge.proofs.AnswerRecords.{record_determines}
 use Rattle.sensed.proofs.AcceptedSizes.{accepted_sizes, accepted_upper_sizes}
-use Rattle.question.specs.declared.Refusal.{Refusal}
+use Rattle.question.specs.declared.refusal.Refusal.{Refusal}
 
 -- ---- one side: no conflict time, or a time shown
 abbrev RightSide : Side → SensedQuestion → Option Instant → Type 0

@@ -5,7 +5,7 @@ use Rattle.question.specs.declared.Settings.{Settings}
 use Rattle.question.specs.StartingSettings.{starting_settings}
 use Rattle.judge.specs.Answers.{answer, AnswerRecord, answer_record}
 use Rattle.judge.specs.Examples.{Example}
-use Rattle.question.specs.declared.Refusal.{Refusal}
+use Rattle.question.specs.declared.refusal.Refusal.{Refusal}
 use Rattle.question.specs.declared.Question.{Question}
 use Rattle.verdict.specs.declared.Verdict.{Verdict}
 

@@ -19,7 +19,7 @@ use Rattle.judge.proofs.ExampleAnswers.{answer_to, answered}
 use Rattle.judge.proofs.ExamplesHold.{examples_hold}
 use Rattle.judge.specs.Marked.{Proved}
 use Rattle.judge.proofs.Demand3.{demand_3}
-use Rattle.question.specs.declared.Refusal.{Refusal}
+use Rattle.question.specs.declared.refusal.Refusal.{Refusal}
 use Rattle.question.specs.declared.Question.{Question}
 
 -- two maps that agree on a list agree at each of its members

@@ -19,7 +19,7 @@ use Rattle.verdict.specs.declared.Verdict.{Verdict}
 use Rattle.verdict.specs.Verdicts.{one_sided_verdict, two_sided_verdict, verdict_of, verdict}
 use Rattle.judge.specs.Answers.{checked_answer, answer}
 use Rattle.instant.specs.declared.Instant.{Instant}
-use Rattle.question.specs.declared.Refusal.{Refusal}
+use Rattle.question.specs.declared.refusal.Refusal.{Refusal}
 
 unfoldable pub earlier_verdict : Question → SensedQuestion → Verdict
 unfolding time_shown earlier_shown

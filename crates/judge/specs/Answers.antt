@@ -10,7 +10,7 @@ use Rattle.verdict.specs.declared.Verdict.TheVariants.{Clear, Conflict, Conflict
 use Rattle.question.specs.Refusals.{refusal}
 use Rattle.sensed.specs.Sensed.{sensed_question}
 use Rattle.verdict.specs.Verdicts.{verdict}
-use Rattle.question.specs.declared.Refusal.{Refusal}
+use Rattle.question.specs.declared.refusal.Refusal.{Refusal}
 
 -- refused, or else judged
 abbrev pub checked_answer : Result ⊤ Refusal → Verdict → Result Verdict Refusal

@@ -13,7 +13,7 @@ use Rattle.verdict.specs.declared.ClearSides.{ClearSides}
 use Rattle.verdict.specs.declared.Verdict.{Verdict}
 use Rattle.verdict.specs.declared.Verdict.TheVariants.{Clear, Conflict, Conflicts}
 use Rattle.question.specs.Refusals.{two_sided}
-use Rattle.question.specs.declared.Refusal.{Refusal}
+use Rattle.question.specs.declared.refusal.Refusal.{Refusal}
 
 -- A time shown on a side: it is a conflict time there, and so in the window; it is the one that the time rule picks; it stands in lowest terms, and its
 -- three numbers are below 2³².

@@ -6,7 +6,7 @@ use Rattle.question.specs.declared.Question.{Question}
 use Rattle.limits.specs.Limits.{no_limit}
 use Rattle.coded.specs.Coded.{coded_question}
 use Rattle.judge.specs.Answers.{answer, AnswerRecord, answers}
-use Rattle.question.specs.declared.Refusal.{Refusal}
+use Rattle.question.specs.declared.refusal.Refusal.{Refusal}
 
 -- an example: its name, its encounter, what is asked there, and the answer
 pub record Example : Type 0 where

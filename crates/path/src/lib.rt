@@ -1,13 +1,6 @@
 // The question that the paths answer, with heights and speeds in the advisory's sense. `specs/Letters.antt` gives document 01's letter for each field.
 #![tactic(auto)]
 
-// Until when a question looks.
-#[derive(Clone, Copy)]
-pub enum Limit {
-    Unlimited,
-    Upto(u64),
-}
-
 #[derive(Clone, Copy)]
 pub struct SensedQuestion {
     // Horizontally: the distance ahead, negative where the intruder has passed, and the speed at which it shrinks.
@@ -27,6 +20,7 @@ pub struct SensedQuestion {
     // The upper advice of a two-sided question.
     pub upper_target: i64,
     pub upper_strength: u64,
+    // Until when the question looks, in seconds.
     pub limit: Option<u64>,
 }
 

@@ -10,7 +10,7 @@ use Rattle.reply.proofs.Writing.{two_stores, stored_first}
 use Rattle.sheet.specs.WholeSheet.{sheet_answer, outcome, area_for, area_after, outcome_record}
 use Rattle.sheet.proofs.OutcomeRecords.{outcome_determines, accepted_length}
 use Rattle.program.specs.Output.{answer_room, written_for, program_output, area_with}
-use Rattle.question.specs.declared.Refusal.{Refusal}
+use Rattle.question.specs.declared.refusal.Refusal.{Refusal}
 
 -- the area that the program lends
 abbrev pub blank : List ℕ

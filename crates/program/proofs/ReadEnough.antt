@@ -13,7 +13,7 @@ use Rattle.integers.proofs.Branches.{picks_no}
 use Rattle.record.specs.SheetCheck.{longest_sheet, sheet_check}
 use Rattle.sheet.specs.WholeSheet.{sheet_answer, outcome_for}
 use Rattle.program.specs.Output.{answer_room, read_room, read_of, written_for, program_output}
-use Rattle.question.specs.declared.Refusal.{Refusal}
+use Rattle.question.specs.declared.refusal.Refusal.{Refusal}
 
 too_long : (s : List ℕ) → longest_sheet < length s → sheet_check s ≡ Err Refusal.SheetTooLong
 too_long s h = picks_no _ _ _ (lt-leb (length s) longest_sheet h)

@@ -4,7 +4,7 @@ use Rattle.std.specs.Prelude.{List, ◌++◌, ℕ, suc, length, take, drop, repl
 use Rattle.record.specs.SheetCheck.{longest_sheet}
 use Rattle.reply.specs.AnswerBytes.{record_bytes}
 use Rattle.sheet.specs.WholeSheet.{sheet_answer, outcome, outcome_record}
-use Rattle.question.specs.declared.Refusal.{Refusal}
+use Rattle.question.specs.declared.refusal.Refusal.{Refusal}
 
 -- the answer area's bytes
 abbrev pub answer_room : ℕ

@@ -1,7 +1,7 @@
 -- What became of refusal 5. Document 01's condition and order, before document 02 gave three of its parts numbers of their own, and that nothing else changed: the same
 -- questions are refused, each other number stays, and a 5 is now 5, 14, 15 or 16. Assumes nothing.
 use Rattle.std.specs.Prelude.{Err, Ok, Result, ⊤}
-use mathlib.Core.Path.{◌≡◌, refl, sym, subst, ◌∙◌}
+use mathlib.Core.Path.{◌≡◌, refl, sym, subst, ap, ◌∙◌}
 use mathlib.Core.Bool.{Bool, true, false, cond, not, ◌&&◌, ◌||◌}
 use mathlib.Core.List.{List, [], ◌∷◌}
 use mathlib.Core.Logic.{◌⊎◌, inl, inr, ◌↔◌}
@@ -12,8 +12,9 @@ use Rattle.limits.specs.Limits.{target_within, strength_within}
 use Rattle.question.specs.declared.Encounter.{Encounter}
 use Rattle.question.specs.declared.Settings.{Settings}
 use Rattle.question.specs.declared.Question.{Question}
+use Rattle.question.specs.RefusalNumbers.{refusal_number}
 use Rattle.question.specs.Refusals.{two_sided, encounter_within, puck_within, delay_acceleration_within, sides_known, targets_within, strengths_ordered, strengths_within, targets_ordered, upper_target_in_sense, upper_zero, upper_unused, times_within, Check, check, first_refusal, refusal}
-use Rattle.question.specs.declared.Refusal.{Refusal}
+use Rattle.question.specs.declared.refusal.Refusal.{Refusal}
 
 -- ---- the earlier rule
 -- "5 target or strength outside limits; two-sided, also an upper field outside limits, b < a, or w × upper target below w × target; one-sided, also
@@ -78,7 +79,7 @@ module _ (rest : Result ⊤ Refusal) where
 differ : ¬ (true ≡ false)
 differ e = subst T e tt
 
-refused_not : {n : ℕ} → ¬ ((Ok tt) ≡ Err n)
+refused_not : {n : Refusal} → ¬ (◌≡◌ {A = Result ⊤ Refusal} (Ok tt) (Err n))
 refused_not e = let z : ◌≡◌ {A = ℕ} 0 1 = cc in omega arith
 
 four_refuse : (now : Result ⊤ Refusal) → OneOfFour now → ¬ (now ≡ Ok tt)
@@ -91,21 +92,21 @@ four_refuse now (inr (inr (inr h))) e = refused_not (sym e ∙ h)
 same : (k : Result ⊤ Refusal) → ¬ (k ≡ Err Refusal.TargetOutside) → OnlyFiveSplit k k
 same k h = record { same_accepted = (λ e. e, λ e. e); stays = λ e. refl; splits = λ e. absurd (h e) }
 
-behind : (b : Bool) (n : ℕ) {earlier now : (Result ⊤ Refusal)} → ¬ (◌≡◌ {A = ℕ} n 5) → OnlyFiveSplit earlier now → OnlyFiveSplit (cond b earlier (Err n)) (cond b now (Err n))
+behind : (b : Bool) (n : Refusal) {earlier now : (Result ⊤ Refusal)} → ¬ (n ≡ Refusal.TargetOutside) → OnlyFiveSplit earlier now → OnlyFiveSplit (cond b earlier (Err n)) (cond b now (Err n))
 behind true n h s = s
-behind false n h s = same (Err n) (λ e. h (refused_number e))
+behind false n h s = same (Err n) (λ e. h (same_refusal e))
   where
-    refused_number : {m k : ℕ} → Err m ≡ Err k → m ≡ k
-    refused_number e = cc
+    same_refusal : {m k : Refusal} → ◌≡◌ {A = Result ⊤ Refusal} (Err m) (Err k) → m ≡ k
+    same_refusal e = cc
 
 module _ (x : Encounter) (y : Settings) (z : Question) where
   abbrev rest : Result ⊤ Refusal
   rest = cond (times_within z) (Ok tt) (Err Refusal.TimesOutside)
 
   -- where the one test passes, what is left is 6 or nothing
-  rest_not_five : (b : Bool) → ¬ (cond b (Ok tt) (Err Refusal.TimesOutside) ≡ Err Refusal.TargetOutside)
+  rest_not_five : (b : Bool) → ¬ (◌≡◌ {A = Result ⊤ Refusal} (cond b (Ok tt) (Err Refusal.TimesOutside)) (Err Refusal.TargetOutside))
   rest_not_five true e = refused_not e
-  rest_not_five false e = let z : ◌≡◌ {A = ℕ} 6 5 = cc in omega arith
+  rest_not_five false e = let z : ◌≡◌ {A = ℕ} 0 1 = cc in omega arith
 
   advice_split : OnlyFiveSplit (cond (earlier_advice_within z) rest (Err Refusal.TargetOutside)) (first_refusal (check Refusal.TargetOutside (targets_within z) ∷ check Refusal.StrengthOutside (strengths_within z) ∷ check Refusal.UpperTargetBelow (upper_target_in_sense z) ∷ check Refusal.UpperFieldsUsed (upper_unused z) ∷ check Refusal.TimesOutside (times_within z) ∷ []))
   advice_split = go _ _ (split rest (two_sided z) (target_within z.target) (target_within z.upper_target) (strength_within z.strength) (strength_within z.upper_strength) (strengths_ordered z) (targets_ordered z) (upper_zero z))
@@ -119,8 +120,8 @@ module _ (x : Encounter) (y : Settings) (z : Question) where
   pub only_five_split : OnlyFiveSplit (earlier_refusal x y z) (refusal x y z)
   unfolding earlier_refusal refusal
   only_five_split =
-      behind (encounter_within x) 1 (λ e. omega (arith, e))
-      (behind (puck_within y) 2 (λ e. omega (arith, e))
-      (behind (delay_acceleration_within y) 3 (λ e. omega (arith, e))
-      (behind (sides_known z) 4 (λ e. omega (arith, e))
+      behind (encounter_within x) Refusal.EncounterOutside (λ e. omega (arith, ap refusal_number e))
+      (behind (puck_within y) Refusal.PuckOutside (λ e. omega (arith, ap refusal_number e))
+      (behind (delay_acceleration_within y) Refusal.DelayAccelerationOutside (λ e. omega (arith, ap refusal_number e))
+      (behind (sides_known z) Refusal.SidesOrSenseUnknown (λ e. omega (arith, ap refusal_number e))
       advice_split)))

@@ -12,7 +12,7 @@ use Rattle.question.specs.declared.Encounter.{Encounter}
 use Rattle.question.specs.declared.Settings.{Settings}
 use Rattle.question.specs.declared.Question.{Question}
 use Rattle.question.specs.Refusals.{is_number, two_sided, encounter_within, puck_within, delay_acceleration_within, sides_known, targets_within, strengths_within, upper_target_in_sense, upper_unused, limit_allowed, times_within, Check, check, first_refusal, refusal}
-use Rattle.question.specs.declared.Refusal.{Refusal}
+use Rattle.question.specs.declared.refusal.Refusal.{Refusal}
 
 -- ---- the earlier rule: "6 delay or limit outside limits, or a delay when two-sided"
 abbrev pub no_delay : Question → Bool
@@ -32,7 +32,7 @@ checks_with times x y z =
     ∷ check Refusal.StrengthOutside (strengths_within z)
     ∷ check Refusal.UpperTargetBelow (upper_target_in_sense z)
     ∷ check Refusal.UpperFieldsUsed (upper_unused z)
-    ∷ check 6 times
+    ∷ check Refusal.TimesOutside times
     ∷ []
 
 unfoldable pub earlier_refusal : Encounter → Settings → Question → Result ⊤ Refusal

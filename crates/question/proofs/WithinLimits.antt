@@ -28,7 +28,7 @@ pub all_pass : (l : List Check) → first_refusal l ≡ Ok tt → AllPass l
 all_pass [] e = tt
 all_pass (c ∷ l) e = go c.passes (all_pass l) e
   where
-    go : (b : Bool) → (first_refusal l ≡ Ok tt → AllPass l) → cond b (first_refusal l) (Err c.number) ≡ Ok tt → T b × AllPass l
+    go : (b : Bool) → (first_refusal l ≡ Ok tt → AllPass l) → cond b (first_refusal l) (Err c.refusal) ≡ Ok tt → T b × AllPass l
     go true f h = (tt, f h)
     go false f h = absurd (let z : ◌≡◌ {A = ℕ} 0 1 = cc in omega arith)
 

@@ -9,7 +9,7 @@ use Rattle.advisory.specs.Sign.{sensed}
 use Rattle.question.specs.declared.Encounter.{Encounter}
 use Rattle.question.specs.declared.Settings.{Settings}
 use Rattle.question.specs.declared.Question.{Question}
-use Rattle.question.specs.declared.Refusal.{Refusal}
+use Rattle.question.specs.declared.refusal.Refusal.{Refusal}
 
 -- x is the number n
 abbrev pub is_number : ℤ → ℤ → Bool
@@ -73,20 +73,20 @@ limit_allowed z = limit_within z.limit || is_number no_limit z.limit
 abbrev pub times_within : Question → Bool
 times_within z = delay_within z.delay && limit_allowed z
 
--- a refusal's number, and the test that a question must pass not to get it
+-- a refusal, and the test that a question must pass not to get it
 pub record Check : Type 0 where
-  pub number : ℕ
+  pub refusal : Refusal
   pub passes : Bool
 
-abbrev pub check : ℕ → Bool → Check
-check number passes = record { number = number; passes = passes }
+abbrev pub check : Refusal → Bool → Check
+check refusal passes = record { refusal = refusal; passes = passes }
 
 -- the first of a list, in its order, that fails
 abbrev pub first_refusal : List Check → Result ⊤ Refusal
 first_refusal [] = Ok tt
-first_refusal (c ∷ l) = cond c.passes (first_refusal l) (Err c.number)
+first_refusal (c ∷ l) = cond c.passes (first_refusal l) (Err c.refusal)
 
--- the numbers of a question's own fields: 14 to 16 are "tested right after 5 in rising order", and so before 6
+-- those of a question's own fields, 4, 5, 14, 15, 16, 6: 14 to 16 are "tested right after 5 in rising order", and so before 6
 abbrev pub question_checks : Question → List Check
 question_checks z =
     check Refusal.SidesOrSenseUnknown (sides_known z)

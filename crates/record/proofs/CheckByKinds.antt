@@ -10,7 +10,7 @@ use lib.ListN.{length}
 use Rattle.record.specs.declared.Kind.{Kind}
 use Rattle.record.specs.Kinds.{kind_of, body_length, known}
 use Rattle.record.specs.SheetCheck.{fault_after, sheet_check}
-use Rattle.question.specs.declared.Refusal.{Refusal}
+use Rattle.question.specs.declared.refusal.Refusal.{Refusal}
 
 -- the kinds of a sheet's records, where so many bytes of a body are left to pass over first
 unfoldable pub kinds_after : ℕ → List ℕ → List Kind

@@ -19,7 +19,7 @@ use Rattle.record.specs.Numbers.{byte_at}
 use Rattle.record.specs.Kinds.{kind_of, body_length, known}
 use Rattle.record.specs.Records.{record_of, records_after, records}
 use Rattle.record.specs.SheetCheck.{fault_after, sheet_check}
-use Rattle.question.specs.declared.Refusal.{Refusal}
+use Rattle.question.specs.declared.refusal.Refusal.{Refusal}
 
 pub body_short : (kind : Kind) → body_length kind ≤ 22
 body_short Encounter = omega arith

@@ -1,7 +1,7 @@
 -- What whoever sends the sheet can cause: refusals 10, 11 and 12.
 use Rattle.std.specs.Prelude.{cond, List, [], ◌∷◌, ℕ, zero, suc, leb, length, Err, Ok, Result, ⊤}
 use Rattle.record.specs.Kinds.{kind_of, body_length, known}
-use Rattle.question.specs.declared.Refusal.{Refusal}
+use Rattle.question.specs.declared.refusal.Refusal.{Refusal}
 
 -- "11 unknown kind; 12 a body cut short; the earlier in the sheet is reported": the first fault of the bytes that follow, where so many bytes of a body are
 -- still to come

@@ -7,9 +7,10 @@ ghost use Rattle.limits.specs.Limits.{strength_within, delay_within};
 ghost use Rattle.question.specs.Refusals.{targets_within, strengths_ordered, strengths_within, targets_ordered, upper_target_in_sense, upper_zero, upper_unused, limit_allowed, times_within, question_checks, first_refusal, refusal};
 
 use advisory::Sense;
-use limits::{MAX_DELAY, MAX_LIMIT, MAX_SPEED, MAX_STRENGTH, MIN_SPEED, MIN_STRENGTH, NO_LIMIT};
+use limits::{MAX_DELAY, MAX_LIMIT, MAX_SPEED, MAX_STRENGTH, MIN_SPEED, MIN_STRENGTH, NO_LIMIT, within,
+};
 use question::{
-    Checked, Encounter, Question, Settings, delay_acceleration_within, encounter_within,
+    Encounter, Question, Refusal, Settings, delay_acceleration_within, encounter_within,
     puck_within, sense_of, sides_known, two_sided,
 };
 
@@ -17,48 +18,24 @@ use question::{
 fn targets_within(question: Question) -> bool
     ensures { result ≡ targets_within question }
 {
-    ((MIN_SPEED <= question.target) & (question.target <= MAX_SPEED))
-        & (!((2 <= question.sides) & (question.sides <= 2))
-            | ((MIN_SPEED <= question.upper_target) & (question.upper_target <= MAX_SPEED)))
+    within(MIN_SPEED, MAX_SPEED, question.target)
+        & (!two_sided(question) | within(MIN_SPEED, MAX_SPEED, question.upper_target))
 }
 
-fn strength_within(question: Question) -> bool
-    ensures { result ≡ strength_within question.strength }
+fn strength_within(strength: i64) -> bool
+    ensures { result ≡ strength_within strength }
 {
-    (MIN_STRENGTH <= question.strength) & (question.strength <= MAX_STRENGTH)
+    within(MIN_STRENGTH, MAX_STRENGTH, strength)
 }
 
-// The upper strength is within its limits, and no lower than the strength.
-fn upper_strength_within(question: Question) -> bool
-    ensures { result ≡ (strength_within question.upper_strength && strengths_ordered question) }
-{
-    ((MIN_STRENGTH <= question.upper_strength) & (question.upper_strength <= MAX_STRENGTH))
-        & (question.strength <= question.upper_strength)
-}
-
-// Refusal 14.
+// Refusal 14: two-sided, the upper strength is no lower than the strength.
 fn strengths_within(question: Question) -> bool
     ensures { result ≡ strengths_within question }
 {
-    if !strength_within(question) {
-        return false;
-    }
-    if two_sided(question) {
-        return upper_strength_within(question);
-    }
-    true
-}
-
-fn target_at_most_upper(question: Question) -> bool
-    ensures { result ≡ le_z question.target question.upper_target }
-{
-    question.target <= question.upper_target
-}
-
-fn upper_at_most_target(question: Question) -> bool
-    ensures { result ≡ le_z question.upper_target question.target }
-{
-    question.upper_target <= question.target
+    strength_within(question.strength)
+        & (!two_sided(question)
+            | (strength_within(question.upper_strength)
+                & (question.strength <= question.upper_strength)))
 }
 
 // The upper target is no lower than the target, in the sense.
@@ -66,8 +43,8 @@ fn targets_ordered(question: Question) -> bool
     ensures { result ≡ targets_ordered question }
 {
     match sense_of(question) {
-        Sense::Climb => target_at_most_upper(question),
-        Sense::Descend => upper_at_most_target(question),
+        Sense::Climb => question.target <= question.upper_target,
+        Sense::Descend => question.upper_target <= question.target,
     }
 }
 
@@ -75,50 +52,22 @@ fn targets_ordered(question: Question) -> bool
 fn upper_target_in_sense(question: Question) -> bool
     ensures { result ≡ upper_target_in_sense question }
 {
-    if two_sided(question) {
-        return targets_ordered(question);
-    }
-    true
-}
-
-fn upper_zero(question: Question) -> bool
-    ensures { result ≡ upper_zero question }
-{
-    ((0 <= question.upper_target) & (question.upper_target <= 0))
-        & ((0 <= question.upper_strength) & (question.upper_strength <= 0))
+    !two_sided(question) | targets_ordered(question)
 }
 
 // Refusal 16.
 fn upper_unused(question: Question) -> bool
     ensures { result ≡ upper_unused question }
 {
-    if two_sided(question) {
-        return true;
-    }
-    upper_zero(question)
-}
-
-fn delay_within(question: Question) -> bool
-    ensures { result ≡ delay_within question.delay }
-{
-    (0 <= question.delay) & (question.delay <= MAX_DELAY)
-}
-
-fn limit_allowed(question: Question) -> bool
-    ensures { result ≡ limit_allowed question }
-{
-    ((0 <= question.limit) & (question.limit <= MAX_LIMIT))
-        | ((NO_LIMIT <= question.limit) & (question.limit <= NO_LIMIT))
+    two_sided(question) | ((question.upper_target == 0) & (question.upper_strength == 0))
 }
 
 // Refusal 6.
 fn times_within(question: Question) -> bool
     ensures { result ≡ times_within question }
 {
-    if !delay_within(question) {
-        return false;
-    }
-    limit_allowed(question)
+    within(0, MAX_DELAY, question.delay)
+        & (within(0, MAX_LIMIT, question.limit) | (question.limit == NO_LIMIT))
 }
 
 // A question's own refusals: 4, 5, 14, 15, 16, 6.

@@ -54,7 +54,7 @@ use Rattle.region.specs.JudgedRegion.{clear_record, advisory_region}
 use Rattle.region.specs.inner.ClearExactly.{clear_verdict, clear_answer, ClearExactly, CodeClearExactly}
 use Rattle.region.proofs.RegionTheorem.{immediate_region, delayed_region}
 use Rattle.advisory.specs.declared.CodeError.{CodeError}
-use Rattle.question.specs.declared.Refusal.{Refusal}
+use Rattle.question.specs.declared.refusal.Refusal.{Refusal}
 
 -- ---- clear is one verdict, one answer and one record
 clear_verdict_lem : (s : SensedQuestion) (v : Verdict) → RightOneSided s v → (v ≡ clear_verdict) ↔ (¬ ConflictExists Lower s)

@@ -3,7 +3,7 @@
 use Rattle.std.specs.Prelude.{cond, ◌||◌, List, [], ◌∷◌, ◌++◌, ℕ, ◌/◌, ◌%◌, eqb, None, Result, Some}
 use Rattle.std.proofs.Math.Option.{Option, none, some}
 use Rattle.judge.specs.Answers.{AnswerRecord, answer_record}
-use Rattle.question.specs.declared.Refusal.{Refusal}
+use Rattle.question.specs.declared.refusal.Refusal.{Refusal}
 use Rattle.verdict.specs.declared.Verdict.{Verdict}
 
 -- the four bytes of an unsigned number below 2³², the most significant first; of a larger one, the bytes of its remainder by 2³² (no time

@@ -34,7 +34,7 @@ use Rattle.screen.specs.RightScreen.{IsStraight, ExactPiece, AllExact, RightDraw
 use Rattle.screen.proofs.WholeFloats.{float_exact}
 use Rattle.screen.proofs.Evaluation.{most_middle, number_zero, step_product, step_sum, step_size, arc_height}
 use Rattle.screen.proofs.PointChecks.{in_time_lem, late_second, refused_point}
-use Rattle.question.specs.declared.Refusal.{Refusal}
+use Rattle.question.specs.declared.refusal.Refusal.{Refusal}
 use Rattle.screen.specs.declared.ScreenPoint.{ScreenPoint}
 
 -- the largest height that a piece's bounds allow

@@ -15,7 +15,7 @@ use Rattle.question.specs.Refusals.{check, plain_checks, refusal}
 use Rattle.refusals.proofs.TestedInOrder.{accepted_first, refused_first, both_accept}
 use Rattle.pieces.specs.Pieces.{last_second}
 use Rattle.screen.specs.Points.{point_refusal}
-use Rattle.question.specs.declared.Refusal.{Refusal}
+use Rattle.question.specs.declared.refusal.Refusal.{Refusal}
 
 module _ (x : Encounter) (y : Settings) (z : Question) (t : ℕ) where
   -- accepted: the question is accepted, and the second is at most 600

@@ -13,7 +13,7 @@ use Rattle.screen.specs.declared.Piece.{Piece}
 use Rattle.screen.specs.declared.DrawnPiece.{DrawnPiece}
 use Rattle.screen.specs.declared.Drawing.{Drawing}
 use Rattle.screen.specs.Floats.{float}
-use Rattle.question.specs.declared.Refusal.{Refusal}
+use Rattle.question.specs.declared.refusal.Refusal.{Refusal}
 
 -- "a piece is a straight exactly if its t² has coefficient 0"; "its coefficients in t as 64-bit floats"
 abbrev pub float_piece : WholePiece → Piece

@@ -13,7 +13,7 @@ use Rattle.pieces.specs.Pieces.{height_after_delay, piece_at, last_second, piece
 use Rattle.screen.specs.declared.Piece.{Piece}
 use Rattle.screen.specs.declared.ScreenPoint.{ScreenPoint}
 use Rattle.screen.specs.Floats.{float}
-use Rattle.question.specs.declared.Refusal.{Refusal}
+use Rattle.question.specs.declared.refusal.Refusal.{Refusal}
 
 -- a piece at the time t, in floats
 unfoldable pub evaluated : Piece → Float → Float

@@ -14,7 +14,7 @@ use Rattle.screen.specs.declared.DrawnPiece.{DrawnPiece}
 use Rattle.screen.specs.declared.ScreenPoint.{ScreenPoint}
 use Rattle.screen.specs.Floats.{float, Exactly}
 use Rattle.screen.specs.Drawings.{float_piece, all_drawn, Content, refused, drawn}
-use Rattle.question.specs.declared.Refusal.{Refusal}
+use Rattle.question.specs.declared.refusal.Refusal.{Refusal}
 
 -- "a piece is a straight exactly if its t² has coefficient 0"
 abbrev pub IsStraight : Piece → Type 0

@@ -8,7 +8,7 @@ ghost use Rattle.sensed.specs.Sensed.{limit_of, sensed_motion, sensed_question};
 
 use advisory::Sense;
 use limits::NO_LIMIT;
-use path::{Limit, SensedQuestion};
+use path::SensedQuestion;
 use question::{Encounter, Question, Settings, sense_of};
 use window::positive_part;
 
@@ -34,7 +34,7 @@ pub fn sign_of(sense: Sense) -> i64
 fn limit_of(limit: i64) -> Option<u64>
     ensures { result ≡ limit_of limit }
 {
-    if (NO_LIMIT <= limit) & (limit <= NO_LIMIT) {
+    if limit == NO_LIMIT {
         return None;
     }
     Some(positive_part(limit))

@@ -33,7 +33,7 @@ use Rattle.answering.specs.Replies.{settings_reply, asked_answer, coded_answer, 
 use Rattle.sheet.specs.WholeSheet.{answers_from, sheet_answer}
 use Rattle.advisory.specs.declared.CodeError.{CodeError}
 use Rattle.advisory.specs.declared.Instruction.{Instruction}
-use Rattle.question.specs.declared.Refusal.{Refusal}
+use Rattle.question.specs.declared.refusal.Refusal.{Refusal}
 
 abbrev size : Result Verdict Refusal → ℕ
 size a = length (reply_bytes (Some a))

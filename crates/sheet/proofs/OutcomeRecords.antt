@@ -11,7 +11,7 @@ use lib.ListN.{length, get_or}
 use Rattle.judge.specs.Answers.{AnswerRecord}
 use Rattle.record.specs.SheetCheck.{sheet_check}
 use Rattle.sheet.specs.WholeSheet.{sheet_answer, outcome_for, outcome, outcome_record}
-use Rattle.question.specs.declared.Refusal.{Refusal}
+use Rattle.question.specs.declared.refusal.Refusal.{Refusal}
 
 abbrev kind_in : AnswerRecord → ℕ
 kind_in r = r.kind

@@ -13,7 +13,7 @@ use Rattle.integers.proofs.Branches.{picks_yes, picks_no}
 use Rattle.record.specs.SheetCheck.{sheet_check}
 use Rattle.sheet.specs.WholeSheet.{sheet_answer, outcome_for, outcome, area_after, area_for}
 use Rattle.sheet.proofs.AnswerBound.{sheet_answer_short}
-use Rattle.question.specs.declared.Refusal.{Refusal}
+use Rattle.question.specs.declared.refusal.Refusal.{Refusal}
 
 -- ---- a refused sheet: the same number for every area, and no byte changed
 pub refused_in_any_area : (s : List ℕ) (n : ℕ) → sheet_check s ≡ Err n → (room : ℕ) → outcome s room ≡ Err n

@@ -8,7 +8,7 @@ use Rattle.reply.specs.AnswerBytes.{reply_bytes}
 use Rattle.answering.specs.declared.State.{State}
 use Rattle.answering.specs.States.{starting_state, state_after}
 use Rattle.answering.specs.Replies.{reply_to}
-use Rattle.question.specs.declared.Refusal.{Refusal}
+use Rattle.question.specs.declared.refusal.Refusal.{Refusal}
 
 -- the answer to records in order, each in the state that those before it left
 unfoldable pub answers_from : State → List Record → List ℕ

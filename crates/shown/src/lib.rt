@@ -14,7 +14,7 @@ ghost use Rattle.shown.specs.TimeShown.{approaches, searched, shown_from, time_s
 ghost use Rattle.shown.specs.inner.Steps.{Opened, StartTried, InstantsTried, shown_at, lowest_point, Searchable, first_reached};
 
 use conflict::{not_beyond, second_not_beyond, speed_after_delay, upper_target};
-use instant::{Instant, Moment, no_later};
+use instant::{Instant, no_later};
 use path::{SensedQuestion, Side};
 use window::{in_window, positive_part, window_end};
 

@@ -9,7 +9,7 @@ ghost use Rattle.question.specs.Refusals.{two_sided, refusal};
 ghost use Rattle.sensed.specs.Sensed.{sensed_question};
 ghost use Rattle.verdict.specs.Verdicts.{one_sided_verdict, two_sided_verdict, verdict_of, verdict};
 
-use instant::{Instant, Moment, Time, lowest_terms};
+use instant::{Instant, Time, lowest_terms};
 use path::{SensedQuestion, Side};
 use question::{Encounter, Question, Settings, two_sided};
 use sensed::sensed_question;
@@ -44,18 +44,11 @@ fn one_sided_verdict(lower: Option<Instant>) -> Verdict
 fn two_sided_verdict(lower: Option<Instant>, upper: Option<Instant>) -> Verdict
     ensures { result ≡ two_sided_verdict lower upper }
 {
-    match lower {
-        Some(t) => match upper {
-            Some(u) => {
-                let second = lowest_terms(u.n, u.m);
-                Verdict::Conflicts(lowest_terms(t.n, t.m), second)
-            }
-            None => Verdict::Clear(ClearSides::Upper),
-        },
-        None => match upper {
-            Some(_) => Verdict::Clear(ClearSides::Lower),
-            None => Verdict::Clear(ClearSides::Both),
-        },
+    match (lower, upper) {
+        (Some(t), Some(u)) => Verdict::Conflicts(lowest_terms(t.n, t.m), lowest_terms(u.n, u.m)),
+        (Some(_), None) => Verdict::Clear(ClearSides::Upper),
+        (None, Some(_)) => Verdict::Clear(ClearSides::Lower),
+        (None, None) => Verdict::Clear(ClearSides::Both),
     }
 }
 

@@ -10,8 +10,8 @@ ghost use Rattle.path.specs.Window.{distance_at, exit_of, window_end};
 ghost use Rattle.path.specs.inner.Tests.{in_time, in_window, opening};
 ghost use Rattle.path.specs.inner.Sizes.{LimitSize, Sizes, InReach};
 
-use instant::{Instant, Moment, earlier};
-use path::{Limit, SensedQuestion};
+use instant::{Instant, earlier};
+use path::SensedQuestion;
 
 // max(0, x)
 pub fn positive_part(x: i64) -> u64

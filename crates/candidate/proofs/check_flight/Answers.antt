@@ -11,7 +11,7 @@ use Rattle.candidate.specs.declared.OneSidedAdvice.{OneSidedAdvice}
 use Rattle.candidate.specs.Advice.{asked}
 use Rattle.candidate.proofs.RefusedAsAsked.{advice_first, flight_last}
 use Rattle.candidate.proofs.check_flight.Goals as goal
-use Rattle.question.specs.declared.Refusal.{Refusal}
+use Rattle.question.specs.declared.refusal.Refusal.{Refusal}
 
 -- what the test k of the question q says, where q is the one that is asked
 told : (x : Encounter) (y : Settings) (z : OneSidedAdvice) {q : Question} {k k' : (Result ⊤ Refusal)} → q ≡ asked z → k ≡ refusal x y q → k ≡ k' → refusal x y (asked z) ≡ k'

@@ -22,7 +22,7 @@ use Rattle.candidate.specs.Advice.{asked, flight_refusal}
 use Rattle.candidate.specs.FlightAnswers.{advice_in_sense, flight_in_sense, checked_flight, flight_answer, flight_record}
 use Rattle.candidate.proofs.RefusedAsAsked.{accepted_flight}
 use Rattle.candidate.proofs.judge_flight.Goals as goal
-use Rattle.question.specs.declared.Refusal.{Refusal}
+use Rattle.question.specs.declared.refusal.Refusal.{Refusal}
 use Rattle.candidate.specs.declared.Flown.{Flown}
 
 -- what the test k of the flight says, where it accepts: the question that is asked is accepted, and the flight is within its sizes

@@ -1,7 +1,7 @@
 -- Definitions that only proofs and inner contracts use; an instructor need not read them.
 -- What it is for a formula to be the judge's clear on a one-sided question.
 use Rattle.std.specs.Prelude.{◌≡◌, ◌↔◌, ℕ, Ok, Result}
-use Rattle.std.proofs.Math.Option.{some}
+use Rattle.std.specs.Prelude.{Some}
 use Rattle.advisory.specs.declared.Instruction.{Instruction}
 use Rattle.advisory.specs.Table1.{printed_at}
 use Rattle.question.specs.declared.Encounter.{Encounter}
@@ -17,7 +17,7 @@ use Rattle.verdict.specs.Verdicts.{verdict}
 use Rattle.judge.specs.Answers.{answer, answer_record}
 use Rattle.region.specs.Formula.{Formula, Says}
 use Rattle.region.specs.JudgedRegion.{clear_record, advisory_region}
-use Rattle.question.specs.declared.Refusal.{Refusal}
+use Rattle.question.specs.declared.refusal.Refusal.{Refusal}
 
 -- clear as verdict and as answer
 abbrev pub clear_verdict : Verdict
@@ -36,7 +36,7 @@ pub record ClearExactly (x : Encounter) (y : Settings) (z : Question) (region : 
 -- A code without a limit asks a question that the judge accepts, and calls clear exactly in the region of the code's line of Table 1
 pub record CodeClearExactly (x : Encounter) (y : Settings) (code : ℕ) : Type 0 where
   pub line : Instruction
-  pub in_table_1 : printed_at code ≡ some line
+  pub in_table_1 : printed_at code ≡ Some line
   pub question : Question
   pub asked : coded_question code x.speed no_limit ≡ Ok question
   pub accepted : refusal x y question ≡ Ok tt

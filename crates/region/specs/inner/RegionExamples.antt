@@ -12,7 +12,7 @@ use Rattle.sensed.specs.Sensed.{sensed_question}
 use Rattle.judge.specs.Examples.{Example, examples}
 use Rattle.region.specs.Formula.{Formula}
 use Rattle.region.specs.inner.Holds.{holds}
-use Rattle.question.specs.declared.Refusal.{Refusal}
+use Rattle.question.specs.declared.refusal.Refusal.{Refusal}
 
 -- Figure 5: one-sided, no limit; Figure 3: also no delay
 abbrev pub delayed_allowed : Question → Bool

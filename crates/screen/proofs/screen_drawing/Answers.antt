@@ -11,7 +11,7 @@ use Rattle.sensed.specs.Sensed.{sensed_question}
 use Rattle.sensed.proofs.AcceptedSizes.{accepted_sizes}
 use Rattle.screen.specs.Drawings.{drawn, drawn_pieces, checked_content, screen_drawing}
 use Rattle.screen.proofs.screen_drawing.Goals as goal
-use Rattle.question.specs.declared.Refusal.{Refusal}
+use Rattle.question.specs.declared.refusal.Refusal.{Refusal}
 
 pub drawing_of-requires : goal.drawing_of-requires
 drawing_of-requires c = let z = c.args in subst Sizes (sym c.sensed_question.ensures) (accepted_sizes z.encounter z.settings z.question (sym c.in-Accepted.ensures))

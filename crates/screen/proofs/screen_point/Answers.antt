@@ -12,7 +12,7 @@ use Rattle.sensed.proofs.AcceptedSizes.{accepted_sizes}
 use Rattle.screen.specs.Points.{point_at, point_refusal, checked_point, screen_point}
 use Rattle.screen.proofs.PointChecks.{accepted_point}
 use Rattle.screen.proofs.screen_point.Goals as goal
-use Rattle.question.specs.declared.Refusal.{Refusal}
+use Rattle.question.specs.declared.refusal.Refusal.{Refusal}
 
 pub sensed_question-s-requires : goal.sensed_question-s-requires
 sensed_question-s-requires c = let a = c.args in (accepted_point a.encounter a.settings a.question a.second (sym c.in-Accepted.ensures)).0

@@ -9,7 +9,7 @@ use Rattle.record.specs.SheetCheck.{sheet_check}
 use Rattle.reply.proofs.Writing.{stored_first}
 use Rattle.sheet.specs.WholeSheet.{sheet_answer, outcome_for, area_for, outcome_record}
 use Rattle.sheet.proofs.answer_sheet.Goals as goal
-use Rattle.question.specs.declared.Refusal.{Refusal}
+use Rattle.question.specs.declared.refusal.Refusal.{Refusal}
 
 pub returns-then-answer_fits : goal.returns-then-answer_fits
 returns-then-answer_fits c =
