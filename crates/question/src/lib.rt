@@ -92,7 +92,8 @@ pub fn delay_acceleration_within(settings: Settings) -> bool
 pub fn sides_known(question: Question) -> bool
     ensures { result ≡ sides_known question }
 {
-    ((question.sides == 1) | (question.sides == 2)) & ((question.sense == 0) | (question.sense == 1))
+    ((question.sides == 1) | (question.sides == 2))
+        & ((question.sense == 0) | (question.sense == 1))
 }
 
 pub fn two_sided(question: Question) -> bool

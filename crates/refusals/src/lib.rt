@@ -7,7 +7,8 @@ ghost use Rattle.limits.specs.Limits.{strength_within, delay_within};
 ghost use Rattle.question.specs.Refusals.{targets_within, strengths_ordered, strengths_within, targets_ordered, upper_target_in_sense, upper_zero, upper_unused, limit_allowed, times_within, question_checks, first_refusal, refusal};
 
 use advisory::Sense;
-use limits::{MAX_DELAY, MAX_LIMIT, MAX_SPEED, MAX_STRENGTH, MIN_SPEED, MIN_STRENGTH, NO_LIMIT, within,
+use limits::{
+    MAX_DELAY, MAX_LIMIT, MAX_SPEED, MAX_STRENGTH, MIN_SPEED, MIN_STRENGTH, NO_LIMIT, within,
 };
 use question::{
     Encounter, Question, Refusal, Settings, delay_acceleration_within, encounter_within,
@@ -102,7 +103,11 @@ fn check_fields(question: Question) -> Result<(), Refusal>
 
 // The refusals of plain numbers: 1, 2, 3, then the question's own.
 #[tactic(auto, unfolding(question::specs::Refusals::refusal))]
-pub fn check_question(encounter: Encounter, settings: Settings, question: Question) -> Result<(), Refusal>
+pub fn check_question(
+    encounter: Encounter,
+    settings: Settings,
+    question: Question,
+) -> Result<(), Refusal>
     ensures { result ≡ refusal encounter settings question }
 {
     if !encounter_within(encounter) {
