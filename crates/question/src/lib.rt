@@ -11,8 +11,10 @@ use limits::{
     MAX_RADIUS, MAX_SPEED, MIN_DISTANCE, MIN_HALF_HEIGHT, MIN_HEIGHT, MIN_SPEED, within,
 };
 
+pub mod accepted;
 pub mod refusal;
 
+pub use accepted::AcceptedQuestion;
 pub use refusal::Refusal;
 
 // The intruder seen from the ownship: r, h, c, v, vi.
