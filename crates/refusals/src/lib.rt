@@ -1,7 +1,7 @@
 // Refusals 1 to 6 and 14 to 16: what a question must meet besides the fields' limits, and the tests in their order. The conditions are `question`'s specs/Refusals.antt.
 #![tactic(auto)]
 
-ghost use Rattle.std.specs.Prelude.{◌≡◌, ◌&&◌};
+ghost use Rattle.std.specs.Prelude.{◌≡◌, IfOk, IfErr, Err, ◌&&◌};
 ghost use Rattle.std.specs.Int.Signed.{le_z};
 ghost use Rattle.limits.specs.Limits.{strength_within, delay_within};
 ghost use Rattle.question.specs.Refusals.{targets_within, strengths_ordered, strengths_within, targets_ordered, upper_target_in_sense, upper_zero, upper_unused, limit_allowed, times_within, question_checks, first_refusal, refusal};
@@ -11,7 +11,7 @@ use limits::{
     MAX_DELAY, MAX_LIMIT, MAX_SPEED, MAX_STRENGTH, MIN_SPEED, MIN_STRENGTH, NO_LIMIT, within,
 };
 use question::{
-    Encounter, Question, Refusal, Settings, delay_acceleration_within, encounter_within,
+    AcceptedQuestion, Encounter, Question, Refusal, Settings, delay_acceleration_within, encounter_within,
     puck_within, sense_of, sides_known, two_sided,
 };
 
@@ -120,4 +120,21 @@ pub fn check_question(
         return Err(Refusal::DelayAccelerationOutside);
     }
     check_fields(question)
+}
+
+// A question that no test refuses, as one.
+pub fn accept(
+    encounter: Encounter,
+    settings: Settings,
+    question: Question,
+) -> Result<AcceptedQuestion, Refusal>
+    ensures same { IfOk result (λ asked. (asked.encounter ≡ encounter) × (asked.settings ≡ settings) × (asked.question ≡ question)) }
+    ensures refused { IfErr result (λ why. refusal encounter settings question ≡ Err why) }
+{
+    check_question(encounter, settings, question)?;
+    Ok(AcceptedQuestion {
+        encounter,
+        settings,
+        question,
+    })
 }
