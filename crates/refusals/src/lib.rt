@@ -11,8 +11,8 @@ use limits::{
     MAX_DELAY, MAX_LIMIT, MAX_SPEED, MAX_STRENGTH, MIN_SPEED, MIN_STRENGTH, NO_LIMIT, within,
 };
 use question::{
-    AcceptedQuestion, Encounter, Question, Refusal, Settings, delay_acceleration_within, encounter_within,
-    puck_within, sense_of, sides_known, two_sided,
+    AcceptedQuestion, Encounter, Question, Refusal, Settings, delay_acceleration_within,
+    encounter_within, puck_within, sense_of, sides_known, two_sided,
 };
 
 // Refusal 5.
