@@ -88,7 +88,7 @@ module _ (side : Side) (s : SensedQuestion) where
   unfolding searched
   no_search e = go (searches side s) e
     where
-      go : (b : Bool) → b ≡ false → None ≡ elim b [ true ↦ first_second (λ j. in_conflict side s j 1) (seconds_tried side) 0 | false ↦ None ]
+      go : (b : Bool) → b ≡ false → ◌≡◌ {A = Option Instant} None (elim b [ true ↦ first_second (λ j. in_conflict side s j 1) (seconds_tried side) 0 | false ↦ None ])
       go true q = absurd (no true q tt)
       go false q = refl
 
