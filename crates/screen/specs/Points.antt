@@ -34,8 +34,8 @@ unfoldable pub point_refusal : Encounter → Settings → Question → ℕ → R
 point_refusal x y z t = first_refusal (plain_checks x y z ++ (check Refusal.TimesOutside (leb t last_second) ∷ []))
 
 abbrev pub checked_point : Result ⊤ Refusal → ScreenPoint → Result ScreenPoint Refusal
-checked_point (Ok tt) p = Ok p
-checked_point (Err n) p = Err n
+checked_point (Ok _) p = Ok p
+checked_point (Err why) p = Err why
 
 unfoldable pub screen_point : Encounter → Settings → Question → ℕ → Result ScreenPoint Refusal
 unfolding sensed_question point_at point_refusal

@@ -1,14 +1,12 @@
--- `screen::check_point` meets its contract: the checks of the entry for plain numbers come first, and the second's last.
-use mathlib.Core.Path.{sym}
+-- `screen::check_point` meets its contract: a question that is refused keeps its refusal.
+use Rattle.std.specs.Prelude.{◌≡◌, Err}
+use mathlib.Core.Path.{sym, ◌∙◌}
 use native.Mathlib.Omega.{arith}
-use Rattle.screen.proofs.PointChecks.{in_time_lem, late_second, refused_point}
+use Rattle.screen.proofs.PointChecks.{refused_point}
 use Rattle.screen.proofs.check_point.Goals as goal
 
-pub returns-then-second-le-LAST_SECOND : goal.returns-then-second-le-LAST_SECOND
-returns-then-second-le-LAST_SECOND c = sym (in_time_lem _ _ _ _ (sym c.in-Accepted.ensures) (omega (arith, c.if-second-le-LAST_SECOND.true)))
-
-pub returns-else-second-le-LAST_SECOND : goal.returns-else-second-le-LAST_SECOND
-returns-else-second-le-LAST_SECOND c = sym (late_second _ _ _ _ (sym c.in-Accepted.ensures) (omega (arith, c.if-second-le-LAST_SECOND.false)))
-
-pub returns-in-Refused : goal.returns-in-Refused
-returns-in-Refused c = sym (refused_point _ _ _ _ _ (sym c.in-Refused.ensures))
+pub returns-in_err-check_question : goal.returns-in_err-check_question
+returns-in_err-check_question c =
+    let why = c.in_err-check_question.field-0.0 in
+    let refused : c.from_residual.result ≡ Err why = grind arith in
+    refused ∙ sym (refused_point _ _ _ _ why (sym c.in_err-check_question.ensures))
