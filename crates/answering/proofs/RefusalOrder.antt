@@ -53,7 +53,7 @@ fails_right false e = refl
 
 -- ---- the plain judge, where the encounter and the settings are within their limits: the question's own numbers
 refused_is : (k : Result ⊤ Refusal) (v : Verdict) → refusal_in (checked_answer k v) ≡ k
-refused_is (Ok tt) v = refl
+refused_is (Ok _) v = refl
 refused_is (Err n) v = refl
 
 module _ (x : Encounter) (y : Settings) (met : T (encounter_within x)) (puck : T (puck_within y)) (acceleration : T (delay_acceleration_within y)) where

@@ -26,7 +26,7 @@ flight_in_sense z l = sensed_flight (sense_of (asked z)) (flight_of l)
 -- refused, or else flown
 abbrev pub checked_flight : Result ⊤ Refusal → SensedQuestion → List Stretch → Result Flown Refusal
 checked_flight (Err n) s l = Err n
-checked_flight (Ok tt) s l = Flown (obeys_test s l) (first_inside s l)
+checked_flight (Ok _) s l = Flown (obeys_test s l) (first_inside s l)
 
 unfoldable pub flight_answer : Encounter → Settings → OneSidedAdvice → List ℤ → Result Flown Refusal
 unfolding flight_refusal sensed_question obeys_test first_inside

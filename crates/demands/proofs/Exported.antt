@@ -60,7 +60,7 @@ held (Err n) f = picks_no _ _ _ (ne_eqb n 0 (omega (arith, f n refl)))
 
 outcome_number : (k : Result ⊤ Refusal) → ((n : ℕ) → k ≡ Err n → 0 < n) → (needed room n : ℕ) → outcome_for k needed room ≡ Err n → 0 < n
 outcome_number (Err m) f needed room n e = let z : m ≡ n = cc in omega (arith, z, f m refl)
-outcome_number (Ok tt) f needed room n e = go (leb needed room) e
+outcome_number (Ok _) f needed room n e = go (leb needed room) e
   where
     go : (b : Bool) → cond b (Ok needed) (Err Refusal.AreaTooShort) ≡ Err n → 0 < n
     go true h = absurd (let z : ◌≡◌ {A = ℕ} 0 1 = cc in omega arith)

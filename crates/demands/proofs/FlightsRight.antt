@@ -45,7 +45,7 @@ record Accepting (k : Result ⊤ Refusal) (s : SensedQuestion) (f : List Stretch
   obeys : obeys_test s f ≡ o
 
 flown_accepted : (k : Result ⊤ Refusal) (s : SensedQuestion) (f : List Stretch) (o : Bool) (e : Option ℕ) → checked_flight k s f ≡ Flown o e → Accepting k s f o
-flown_accepted (Ok tt) s f o e h = record { accepted = refl; obeys = cc }
+flown_accepted (Ok _) s f o e h = record { accepted = refl; obeys = cc }
 flown_accepted (Err n) s f o e h = let z : ◌≡◌ {A = ℕ} 0 1 = cc in absurd (omega arith)
 
 not_conflict : (v : Verdict) (sides : ClearSides) → v ≡ Clear sides → ¬ SaysConflict v
@@ -109,7 +109,7 @@ module _ (x : Encounter) (y : Settings) (z : OneSidedAdvice) (l : List ℤ) wher
   entry_held false (Some n) = refl
 
   flight_held : (k : Result ⊤ Refusal) → ((n : ℕ) → k ≡ Err n → 0 < n) → flight_in (flat_flight (checked_flight k s f)) ≡ checked_flight k s f
-  flight_held (Ok tt) h = entry_held (obeys_test s f) (first_inside s f)
+  flight_held (Ok _) h = entry_held (obeys_test s f) (first_inside s f)
   flight_held (Err n) h = picks_no _ _ _ (ne_eqb n 0 (omega (arith, h n refl)))
 
   answer_held : flight_in (flat_flight (flight_answer x y z l)) ≡ flight_answer x y z l

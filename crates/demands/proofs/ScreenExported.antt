@@ -64,12 +64,12 @@ pieces_held (p ∷ q ∷ r ∷ []) h = three (piece_held p) (piece_held q) (piec
 pieces_held (p ∷ q ∷ r ∷ x ∷ l) h = absurd (omega (arith, h))
 
 content_held : (k : Result ⊤ Refusal) → ((n : ℕ) → k ≡ Err n → 0 < n) → (l : List DrawnPiece) → length l ≤ 3 → content_in (flat_content (checked_content k l)) ≡ checked_content k l
-content_held (Ok tt) f l h = pieces_held l h
+content_held (Ok _) f l h = pieces_held l h
 content_held (Err n) f l h = picks_no _ _ _ (ne_eqb n 0 (omega (arith, f n refl)))
 
 -- ---- a point
 point_held : (k : Result ⊤ Refusal) → ((n : ℕ) → k ≡ Err n → 0 < n) → (p : ScreenPoint) → point_in (flat_point (checked_point k p)) ≡ checked_point k p
-point_held (Ok tt) f p = refl
+point_held (Ok _) f p = refl
 point_held (Err n) f p = picks_no _ _ _ (ne_eqb n 0 (omega (arith, f n refl)))
 
 module _ (x : Encounter) (y : Settings) (z : Question) where

@@ -14,7 +14,7 @@ use Rattle.question.specs.declared.refusal.Refusal.{Refusal}
 
 -- refused, or else judged
 abbrev pub checked_answer : Result ⊤ Refusal → Verdict → Result Verdict Refusal
-checked_answer (Ok tt) v = Ok v
+checked_answer (Ok _) v = Ok v
 checked_answer (Err n) v = Err n
 
 unfoldable pub answer : Encounter → Settings → Question → Result Verdict Refusal

@@ -20,15 +20,15 @@ pub accepted_first : (l r : List Check) → first_refusal l ≡ Ok tt → first_
 accepted_first [] r e = refl
 accepted_first (c ∷ l) r e = go (accepted_first l r) c.passes e
   where
-    go : (first_refusal l ≡ Ok tt → first_refusal (l ++ r) ≡ first_refusal r) → (b : Bool) → cond b (first_refusal l) (Err c.number) ≡ Ok tt → cond b (first_refusal (l ++ r)) (Err c.number) ≡ first_refusal r
+    go : (first_refusal l ≡ Ok tt → first_refusal (l ++ r) ≡ first_refusal r) → (b : Bool) → cond b (first_refusal l) (Err c.refusal) ≡ Ok tt → cond b (first_refusal (l ++ r)) (Err c.refusal) ≡ first_refusal r
     go f true e = f e
     go f false e = cc
 
-pub refused_first : (n : ℕ) (l r : List Check) → first_refusal l ≡ Err n → first_refusal (l ++ r) ≡ Err n
+pub refused_first : (n : Refusal) (l r : List Check) → first_refusal l ≡ Err n → first_refusal (l ++ r) ≡ Err n
 refused_first n [] r e = cc
 refused_first n (c ∷ l) r e = go (refused_first n l r) c.passes e
   where
-    go : (first_refusal l ≡ Err n → first_refusal (l ++ r) ≡ Err n) → (b : Bool) → cond b (first_refusal l) (Err c.number) ≡ Err n → cond b (first_refusal (l ++ r)) (Err c.number) ≡ Err n
+    go : (first_refusal l ≡ Err n → first_refusal (l ++ r) ≡ Err n) → (b : Bool) → cond b (first_refusal l) (Err c.refusal) ≡ Err n → cond b (first_refusal (l ++ r)) (Err c.refusal) ≡ Err n
     go f true e = f e
     go f false e = e
 
@@ -36,8 +36,8 @@ pub both_accept : (l r : List Check) → first_refusal (l ++ r) ≡ Ok tt → (f
 both_accept l r e = go (first_refusal l) refl
   where
     go : (k : Result ⊤ Refusal) → first_refusal l ≡ k → (first_refusal l ≡ Ok tt) × (first_refusal r ≡ Ok tt)
-    go (Ok tt) f = (f, sym (accepted_first l r f) ∙ e)
+    go (Ok _) f = (f, sym (accepted_first l r f) ∙ e)
     go (Err n) f = absurd (clash (sym (refused_first n l r f) ∙ e))
       where
-        clash : Err n ≡ Ok tt → ⊥
+        clash : ◌≡◌ {A = Result ⊤ Refusal} (Err n) (Ok tt) → ⊥
         clash g = let z : ◌≡◌ {A = ℕ} 0 1 = cc in omega arith

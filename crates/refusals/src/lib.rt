@@ -62,12 +62,17 @@ fn upper_unused(question: Question) -> bool
     two_sided(question) | ((question.upper_target == 0) & (question.upper_strength == 0))
 }
 
+fn limit_allowed(question: Question) -> bool
+    ensures { result ≡ limit_allowed question }
+{
+    within(0, MAX_LIMIT, question.limit) | (question.limit == NO_LIMIT)
+}
+
 // Refusal 6.
 fn times_within(question: Question) -> bool
     ensures { result ≡ times_within question }
 {
-    within(0, MAX_DELAY, question.delay)
-        & (within(0, MAX_LIMIT, question.limit) | (question.limit == NO_LIMIT))
+    within(0, MAX_DELAY, question.delay) & limit_allowed(question)
 }
 
 // A question's own refusals: 4, 5, 14, 15, 16, 6.

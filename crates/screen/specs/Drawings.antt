@@ -44,7 +44,7 @@ content (Drawing.Three p q r) = drawn (p ∷ q ∷ r ∷ [])
 
 -- "the other refusals are those of the entry for plain numbers"
 abbrev pub checked_content : Result ⊤ Refusal → List DrawnPiece → Content
-checked_content (Ok tt) l = drawn l
+checked_content (Ok _) l = drawn l
 checked_content (Err n) l = refused n
 
 unfoldable pub screen_drawing : Encounter → Settings → Question → Content

@@ -34,7 +34,7 @@ unfoldable pub point_refusal : Encounter → Settings → Question → ℕ → R
 point_refusal x y z t = first_refusal (plain_checks x y z ++ (check Refusal.TimesOutside (leb t last_second) ∷ []))
 
 abbrev pub checked_point : Result ⊤ Refusal → ScreenPoint → Result ScreenPoint Refusal
-checked_point (Ok tt) p = Ok p
+checked_point (Ok _) p = Ok p
 checked_point (Err n) p = Err n
 
 unfoldable pub screen_point : Encounter → Settings → Question → ℕ → Result ScreenPoint Refusal

@@ -57,7 +57,7 @@ module _ (x : Encounter) (y : Settings) (z : Question) where
   one_sided_size e = go (refusal x y z) refl
     where
       go : (k : Result ⊤ Refusal) → refusal x y z ≡ k → size (checked_answer k (verdict z (sensed_question x y z))) ≤ 13
-      go (Ok tt) p = verdict_size (verdict z (sensed_question x y z)) (one_sided_lem x y z p e)
+      go (Ok _) p = verdict_size (verdict z (sensed_question x y z)) (one_sided_lem x y z p e)
       go (Err n) p = omega arith
 
 asked_size : (x : Encounter) (y : Settings) (code : ℕ) (a : Result Instruction CodeError) (v limit : ℤ) → size (asked_answer x y (asked code a v limit)) ≤ 13

@@ -27,7 +27,7 @@ outcome_determines (Err m) (Ok n) e = absurd (omega (arith, ap kind_in e))
 
 accepted_for : (k : Result ⊤ Refusal) (needed room written : ℕ) → outcome_for k needed room ≡ Ok written → (written ≡ needed) × (written ≤ room)
 accepted_for (Err n) needed room written e = absurd (omega (arith, ap (λ (o : Result ℕ Refusal). (outcome_record o).kind) e))
-accepted_for (Ok tt) needed room written e = go (leb needed room) refl e
+accepted_for (Ok _) needed room written e = go (leb needed room) refl e
   where
     go : (b : Bool) → leb needed room ≡ b → cond b (Ok needed) (Err Refusal.AreaTooShort) ≡ Ok written → (written ≡ needed) × (written ≤ room)
     go true p h = let w = ap (λ (o : Result ℕ Refusal). first_value (outcome_record o)) h in (sym w, omega (arith, leb-true needed room p, w))

@@ -22,7 +22,7 @@ sheet_answer sheet = answers_from starting_state (records sheet)
 -- "13, the answer area is shorter than the whole answer, tested after 10 to 12"
 abbrev pub outcome_for : Result ⊤ Refusal → ℕ → ℕ → Result ℕ Refusal
 outcome_for (Err number) needed room = Err number
-outcome_for (Ok tt) needed room = cond (leb needed room) (Ok needed) (Err Refusal.AreaTooShort)
+outcome_for (Ok _) needed room = cond (leb needed room) (Ok needed) (Err Refusal.AreaTooShort)
 
 -- the outcome for a sheet and an area of `room` bytes
 abbrev pub outcome : List ℕ → ℕ → Result ℕ Refusal
