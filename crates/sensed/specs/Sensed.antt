@@ -1,5 +1,5 @@
 -- A question of plain numbers as a sensed question: "Write u = w × (v − vi), q = w × (target − vi)"; the intruder's height is w × h.
-use Rattle.std.specs.Prelude.{cond, ℤ, ◌-ℤ◌, None, Option, Some}
+use Rattle.std.specs.Prelude.{ℕ, cond, ℤ, ◌-ℤ◌, None, Option, Some}
 use Rattle.limits.specs.Limits.{no_limit}
 use Rattle.integers.specs.Extremes.{max0}
 use Rattle.advisory.specs.Sign.{sensed}

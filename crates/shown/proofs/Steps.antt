@@ -84,15 +84,15 @@ module _ (side : Side) (s : SensedQuestion) where
   only_search = refl
 
   -- no search
-  pub no_search : searches side s ≡ false → None ≡ searched side s
+  pub no_search : searches side s ≡ false → ◌≡◌ {A = Option Instant} None (searched side s)
   unfolding searched
   no_search e = go (searches side s) e
     where
-      go : (b : Bool) → b ≡ false → None ≡ elim b [ true ↦ first_second (λ j. in_conflict side s j 1) (seconds_tried side) 0 | false ↦ None ]
+      go : (b : Bool) → b ≡ false → ◌≡◌ {A = Option Instant} None (elim b [ true ↦ first_second (λ j. in_conflict side s j 1) (seconds_tried side) 0 | false ↦ None ])
       go true q = absurd (no true q tt)
       go false q = refl
 
-  pub ended : (t : Instant) → window_end s ≡ Some t → None ≡ shown_from side s []
+  pub ended : (t : Instant) → window_end s ≡ Some t → ◌≡◌ {A = Option Instant} None (shown_from side s [])
   ended t e = no_search (ap (λ (m : Option Instant). is_never m && (in_window s 0 1 && approaches side s)) e) ∙ only_search
 
   -- where the window has no end

@@ -22,7 +22,7 @@ returns-then-flight_within c =
     let z = c.args in
     let l = z.flight.now in
     sym
-    (flight_last z.encounter z.settings z.advice l (told z.encounter z.settings z.advice c.asked.ensures c.check_question.ensures c.in-Accepted.is)
+    (flight_last z.encounter z.settings z.advice l (told z.encounter z.settings z.advice c.asked.ensures c.check_question.ensures c.in-Ok.is)
     ∙ picks_yes (numbers_within l) (Ok tt) (Err Refusal.FlightOutside) (sym c.flight_within.ensures ∙ c.if-flight_within.true))
 
 pub returns-else-flight_within : goal.returns-else-flight_within
@@ -30,10 +30,10 @@ returns-else-flight_within c =
     let z = c.args in
     let l = z.flight.now in
     sym
-    (flight_last z.encounter z.settings z.advice l (told z.encounter z.settings z.advice c.asked.ensures c.check_question.ensures c.in-Accepted.is)
+    (flight_last z.encounter z.settings z.advice l (told z.encounter z.settings z.advice c.asked.ensures c.check_question.ensures c.in-Ok.is)
     ∙ picks_no (numbers_within l) (Ok tt) (Err Refusal.FlightOutside) (sym c.flight_within.ensures ∙ c.if-flight_within.false))
 
-pub returns-in-Refused : goal.returns-in-Refused
-returns-in-Refused c =
+pub returns-in-Err : goal.returns-in-Err
+returns-in-Err c =
     let z = c.args in
-    sym (advice_first z.encounter z.settings z.advice z.flight.now c.in-Refused.number (told z.encounter z.settings z.advice c.asked.ensures c.check_question.ensures c.in-Refused.is))
+    sym (advice_first z.encounter z.settings z.advice z.flight.now c.in-Err.number (told z.encounter z.settings z.advice c.asked.ensures c.check_question.ensures c.in-Err.is))

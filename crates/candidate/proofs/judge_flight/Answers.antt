@@ -1,5 +1,5 @@
 -- `candidate::judge_flight` meets its contract: refused by the first test that fails, else flown.
-use Rattle.std.specs.Prelude.{Err, Ok, Option, Result, ⊤}
+use Rattle.std.specs.Prelude.{ℕ, Err, Ok, Option, Result, ⊤}
 use mathlib.Core.Path.{◌≡◌, sym, ap, subst, ◌∙◌}
 use mathlib.Core.Bool.{Bool, true}
 use mathlib.Core.List.{List}
@@ -49,26 +49,26 @@ unfolding flight_answer
 by_check x y z l k e = ap (λ (j : Result ⊤ Refusal). checked_flight j (advice_in_sense x y z) (flight_in_sense z l)) (sym e)
 
 pub sensed_question-s-requires : goal.sensed_question-s-requires
-sensed_question-s-requires c = let z = c.args in accepted z.encounter z.settings z.advice z.flight.now c.check_flight.ensures c.in-Accepted.is c.asked-question.ensures
+sensed_question-s-requires c = let z = c.args in accepted z.encounter z.settings z.advice z.flight.now c.check_flight.ensures c.in-Ok.is c.asked-question.ensures
 
 pub flight_obeys-obeys-requires-clause-sizes : goal.flight_obeys-obeys-requires-clause-sizes
 flight_obeys-obeys-requires-clause-sizes c =
     let z = c.args in
-    sized z.encounter z.settings z.advice z.flight.now c.check_flight.ensures c.in-Accepted.is c.asked-question.ensures c.sensed_question-s.ensures
+    sized z.encounter z.settings z.advice z.flight.now c.check_flight.ensures c.in-Ok.is c.asked-question.ensures c.sensed_question-s.ensures
 
 pub flight_obeys-obeys-requires-clause-flight_value : goal.flight_obeys-obeys-requires-clause-flight_value
-flight_obeys-obeys-requires-clause-flight_value c = let z = c.args in (passed z.encounter z.settings z.advice z.flight.now c.check_flight.ensures c.in-Accepted.is).1
+flight_obeys-obeys-requires-clause-flight_value c = let z = c.args in (passed z.encounter z.settings z.advice z.flight.now c.check_flight.ensures c.in-Ok.is).1
 
 pub first_inside-entry-requires-clause-sizes : goal.first_inside-entry-requires-clause-sizes
 first_inside-entry-requires-clause-sizes c =
     let z = c.args in
-    sized z.encounter z.settings z.advice z.flight.now c.check_flight.ensures c.in-Accepted.is c.asked-question.ensures c.sensed_question-s.ensures
+    sized z.encounter z.settings z.advice z.flight.now c.check_flight.ensures c.in-Ok.is c.asked-question.ensures c.sensed_question-s.ensures
 
 pub first_inside-entry-requires-clause-flight_value : goal.first_inside-entry-requires-clause-flight_value
-first_inside-entry-requires-clause-flight_value c = let z = c.args in (passed z.encounter z.settings z.advice z.flight.now c.check_flight.ensures c.in-Accepted.is).1
+first_inside-entry-requires-clause-flight_value c = let z = c.args in (passed z.encounter z.settings z.advice z.flight.now c.check_flight.ensures c.in-Ok.is).1
 
-pub returns-in-Accepted : goal.returns-in-Accepted
-returns-in-Accepted c =
+pub returns-in-Ok : goal.returns-in-Ok
+returns-in-Ok c =
     let z = c.args in
     let x = z.encounter in
     let y = z.settings in
@@ -76,9 +76,9 @@ returns-in-Accepted c =
     let sense = c.sense_of-w.ensures ∙ ap sense_of c.asked-question.ensures in
     ap flight_record
     (same-flown (flight_of z.flight.now) same sense c.flight_obeys-obeys.ensures c.first_inside-entry.ensures
-    ∙ by_check x y z.advice z.flight.now (Ok tt) (sym c.check_flight.ensures ∙ c.in-Accepted.is))
+    ∙ by_check x y z.advice z.flight.now (Ok tt) (sym c.check_flight.ensures ∙ c.in-Ok.is))
 
-pub returns-in-Refused : goal.returns-in-Refused
-returns-in-Refused c =
+pub returns-in-Err : goal.returns-in-Err
+returns-in-Err c =
     let z = c.args in
-    ap flight_record (by_check z.encounter z.settings z.advice z.flight.now (Err c.in-Refused.number) (sym c.check_flight.ensures ∙ c.in-Refused.is))
+    ap flight_record (by_check z.encounter z.settings z.advice z.flight.now (Err c.in-Err.number) (sym c.check_flight.ensures ∙ c.in-Err.is))

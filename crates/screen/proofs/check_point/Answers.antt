@@ -5,10 +5,10 @@ use Rattle.screen.proofs.PointChecks.{in_time_lem, late_second, refused_point}
 use Rattle.screen.proofs.check_point.Goals as goal
 
 pub returns-then-second-le-LAST_SECOND : goal.returns-then-second-le-LAST_SECOND
-returns-then-second-le-LAST_SECOND c = sym (in_time_lem _ _ _ _ (sym c.in-Accepted.ensures) (omega (arith, c.if-second-le-LAST_SECOND.true)))
+returns-then-second-le-LAST_SECOND c = sym (in_time_lem _ _ _ _ (sym c.in-Ok.ensures) (omega (arith, c.if-second-le-LAST_SECOND.true)))
 
 pub returns-else-second-le-LAST_SECOND : goal.returns-else-second-le-LAST_SECOND
-returns-else-second-le-LAST_SECOND c = sym (late_second _ _ _ _ (sym c.in-Accepted.ensures) (omega (arith, c.if-second-le-LAST_SECOND.false)))
+returns-else-second-le-LAST_SECOND c = sym (late_second _ _ _ _ (sym c.in-Ok.ensures) (omega (arith, c.if-second-le-LAST_SECOND.false)))
 
-pub returns-in-Refused : goal.returns-in-Refused
-returns-in-Refused c = sym (refused_point _ _ _ _ _ (sym c.in-Refused.ensures))
+pub returns-in-Err : goal.returns-in-Err
+returns-in-Err c = sym (refused_point _ _ _ _ _ (sym c.in-Err.ensures))

@@ -14,15 +14,15 @@ use Rattle.screen.proofs.screen_drawing.Goals as goal
 use Rattle.question.specs.declared.refusal.Refusal.{Refusal}
 
 pub drawing_of-requires : goal.drawing_of-requires
-drawing_of-requires c = let z = c.args in subst Sizes (sym c.sensed_question.ensures) (accepted_sizes z.encounter z.settings z.question (sym c.in-Accepted.ensures))
+drawing_of-requires c = let z = c.args in subst Sizes (sym c.sensed_question.ensures) (accepted_sizes z.encounter z.settings z.question (sym c.in-Ok.ensures))
 
 -- the content by what the check says
 by_check : (x : Encounter) (y : Settings) (z : Question) (k : Result ⊤ Refusal) → k ≡ refusal x y z → checked_content k (drawn_pieces (sensed_question x y z)) ≡ screen_drawing x y z
 unfolding screen_drawing
 by_check x y z k e = ap (λ (j : Result ⊤ Refusal). checked_content j (drawn_pieces (sensed_question x y z))) e
 
-pub returns-in-Accepted : goal.returns-in-Accepted
-returns-in-Accepted c = c.drawing_of.ensures ∙ ap (λ (q : SensedQuestion). drawn (drawn_pieces q)) c.sensed_question.ensures ∙ by_check _ _ _ (Ok tt) c.in-Accepted.ensures
+pub returns-in-Ok : goal.returns-in-Ok
+returns-in-Ok c = c.drawing_of.ensures ∙ ap (λ (q : SensedQuestion). drawn (drawn_pieces q)) c.sensed_question.ensures ∙ by_check _ _ _ (Ok tt) c.in-Ok.ensures
 
-pub returns-in-Refused : goal.returns-in-Refused
-returns-in-Refused c = by_check _ _ _ (Err c.in-Refused.number) c.in-Refused.ensures
+pub returns-in-Err : goal.returns-in-Err
+returns-in-Err c = by_check _ _ _ (Err c.in-Err.number) c.in-Err.ensures

@@ -15,24 +15,24 @@ use Rattle.screen.proofs.screen_point.Goals as goal
 use Rattle.question.specs.declared.refusal.Refusal.{Refusal}
 
 pub sensed_question-s-requires : goal.sensed_question-s-requires
-sensed_question-s-requires c = let a = c.args in (accepted_point a.encounter a.settings a.question a.second (sym c.in-Accepted.ensures)).0
+sensed_question-s-requires c = let a = c.args in (accepted_point a.encounter a.settings a.question a.second (sym c.in-Ok.ensures)).0
 
 pub point_at-requires-clause-sizes : goal.point_at-requires-clause-sizes
 point_at-requires-clause-sizes c =
     let a = c.args in
-    subst Sizes (sym c.sensed_question-s.ensures) (accepted_sizes a.encounter a.settings a.question (accepted_point a.encounter a.settings a.question a.second (sym c.in-Accepted.ensures)).0)
+    subst Sizes (sym c.sensed_question-s.ensures) (accepted_sizes a.encounter a.settings a.question (accepted_point a.encounter a.settings a.question a.second (sym c.in-Ok.ensures)).0)
 
 pub point_at-requires-clause-second_le_last_second : goal.point_at-requires-clause-second_le_last_second
-point_at-requires-clause-second_le_last_second c = let a = c.args in (accepted_point a.encounter a.settings a.question a.second (sym c.in-Accepted.ensures)).1
+point_at-requires-clause-second_le_last_second c = let a = c.args in (accepted_point a.encounter a.settings a.question a.second (sym c.in-Ok.ensures)).1
 
 -- the answer by what the check says
 by_check : (x : Encounter) (y : Settings) (z : Question) (t : ℕ) (k : Result ⊤ Refusal) → k ≡ point_refusal x y z t → checked_point k (point_at (sensed_question x y z) t) ≡ screen_point x y z t
 unfolding screen_point
 by_check x y z t k e = ap (λ (j : Result ⊤ Refusal). checked_point j (point_at (sensed_question x y z) t)) e
 
-pub returns-in-Accepted : goal.returns-in-Accepted
-returns-in-Accepted c =
-    ap Ok (c.point_at.ensures ∙ ap (λ (q : SensedQuestion). point_at q c.args.second) c.sensed_question-s.ensures) ∙ by_check _ _ _ _ (Ok tt) c.in-Accepted.ensures
+pub returns-in-Ok : goal.returns-in-Ok
+returns-in-Ok c =
+    ap Ok (c.point_at.ensures ∙ ap (λ (q : SensedQuestion). point_at q c.args.second) c.sensed_question-s.ensures) ∙ by_check _ _ _ _ (Ok tt) c.in-Ok.ensures
 
-pub returns-in-Refused : goal.returns-in-Refused
-returns-in-Refused c = by_check _ _ _ _ (Err c.in-Refused.number) c.in-Refused.ensures
+pub returns-in-Err : goal.returns-in-Err
+returns-in-Err c = by_check _ _ _ _ (Err c.in-Err.number) c.in-Err.ensures
