@@ -4,8 +4,6 @@ use Rattle.std.specs.Prelude.{Err, Ok}
 use mathlib.Core.Path.{◌≡◌, refl, sym, ◌∙◌}
 use mathlib.Core.Bool.{Bool, true, false, cond, ◌&&◌}
 use mathlib.Core.List.{List, [], ◌∷◌}
-use Prim.Native.Nat.{ℕ}
-use native.Mathlib.Omega.{arith}
 use lib.IntN.{ℤ}
 use Rattle.limits.specs.Limits.{target_within, strength_within}
 use Rattle.question.specs.declared.Encounter.{Encounter}
@@ -29,7 +27,7 @@ module _ (x : Encounter) (y : Settings) (z : OneSidedAdvice) where
 
   module _ (l : List ℤ) where
     -- a refused advice keeps its number, whatever the flight
-    pub advice_first : (n : ℕ) → refusal x y (asked z) ≡ Err n → flight_refusal x y z l ≡ Err n
+    pub advice_first : (n : Refusal) → refusal x y (asked z) ≡ Err n → flight_refusal x y z l ≡ Err n
     unfolding flight_refusal
     advice_first n e = refused_first n (advice_checks x y z) (check Refusal.FlightOutside (numbers_within l) ∷ []) (sym refused_as_asked ∙ e)
 
@@ -45,4 +43,4 @@ module _ (x : Encounter) (y : Settings) (z : OneSidedAdvice) where
       where
         within : (b : Bool) → cond b (Ok tt) (Err Refusal.FlightOutside) ≡ Ok tt → b ≡ true
         within true e = refl
-        within false e = let z : ◌≡◌ {A = ℕ} 0 1 = cc in absurd (omega arith)
+        within false e = cc
