@@ -12,6 +12,33 @@ use Rattle.judge.specs.Answers.{AnswerRecord}
 use Rattle.candidate.specs.declared.Flown.{Flown}
 use Rattle.candidate.specs.FlightAnswers.{yes_number, inside_numbers, flight_record}
 
+-- ---- a number is that of one refusal
+abbrev numbered : List Refusal
+numbered = Refusal.EncounterOutside ∷ Refusal.EncounterOutside ∷ Refusal.PuckOutside ∷ Refusal.DelayAccelerationOutside ∷ Refusal.SidesOrSenseUnknown ∷ Refusal.TargetOutside ∷ Refusal.TimesOutside ∷ Refusal.NoEncounter ∷ Refusal.CodeUnknown ∷ Refusal.CodeNotJudged ∷ Refusal.SheetTooLong ∷ Refusal.KindUnknown ∷ Refusal.RecordCutShort ∷ Refusal.AreaTooShort ∷ Refusal.StrengthOutside ∷ Refusal.UpperTargetBelow ∷ Refusal.UpperFieldsUsed ∷ Refusal.NeverIssued ∷ Refusal.FlightOutside ∷ []
+
+held : (n : Refusal) → get_or numbered (refusal_number n) Refusal.EncounterOutside ≡ n
+held Refusal.EncounterOutside = refl
+held Refusal.PuckOutside = refl
+held Refusal.DelayAccelerationOutside = refl
+held Refusal.SidesOrSenseUnknown = refl
+held Refusal.TargetOutside = refl
+held Refusal.TimesOutside = refl
+held Refusal.NoEncounter = refl
+held Refusal.CodeUnknown = refl
+held Refusal.CodeNotJudged = refl
+held Refusal.SheetTooLong = refl
+held Refusal.KindUnknown = refl
+held Refusal.RecordCutShort = refl
+held Refusal.AreaTooShort = refl
+held Refusal.StrengthOutside = refl
+held Refusal.UpperTargetBelow = refl
+held Refusal.UpperFieldsUsed = refl
+held Refusal.NeverIssued = refl
+held Refusal.FlightOutside = refl
+
+same_refusal : (n m : Refusal) → refusal_number n ≡ refusal_number m → n ≡ m
+same_refusal n m e = sym (held n) ∙ ap (λ (i : ℕ). get_or numbered i Refusal.EncounterOutside) e ∙ held m
+
 kind : {a b : AnswerRecord} → a ≡ b → a.kind ≡ b.kind
 kind e = ap (λ (r : AnswerRecord). r.kind) e
 

@@ -45,6 +45,7 @@ pub fn asked(advice: OneSidedAdvice) -> Question
 }
 
 // 18 comes after the refusals of encounter, puck, e and advice.
+#[tactic(auto, using(crate::proofs::RefusedAsAsked::flight_last))]
 fn check_flight(
     encounter: Encounter,
     settings: Settings,
@@ -61,6 +62,7 @@ fn check_flight(
 }
 
 // The entry: any 64-bit values, and as many of them as the flight has.
+#[tactic(auto, using(crate::proofs::RefusedAsAsked::accepted_question, crate::proofs::RefusedAsAsked::accepted_numbers, sensed::proofs::AcceptedSizes::accepted_sizes), unfolding(crate::specs::FlightAnswers::flight_answer))]
 pub fn judge_flight(
     encounter: Encounter,
     settings: Settings,
