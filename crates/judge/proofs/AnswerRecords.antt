@@ -1,5 +1,4 @@
--- Document 01's number and values determine the answer: two answers with the same record are the same, so the entry's promise, an equation of records,
--- fixes its result. Assumes nothing.
+-- Document 01's number and values determine the answer: two answers with the same record are the same.
 use Rattle.std.specs.Prelude.{Err, Ok, Result}
 use mathlib.Core.Path.{◌≡◌, refl, ap, ap₂, ◌∙◌}
 use mathlib.Core.List.{List, [], ◌∷◌}
@@ -8,6 +7,7 @@ use native.Mathlib.Omega.{arith}
 use Rattle.instant.specs.declared.Time.{Time}
 use Rattle.verdict.specs.declared.ClearSides.{ClearSides}
 use Rattle.verdict.specs.declared.Verdict.TheVariants.{Clear, Conflict, Conflicts}
+use Rattle.question.proofs.RefusalNumbers.{number_determines}
 use Rattle.judge.specs.Answers.{AnswerRecord, sides_number, answer_record}
 use Rattle.question.specs.declared.refusal.Refusal.{Refusal}
 use Rattle.verdict.specs.declared.Verdict.{Verdict}
@@ -61,4 +61,4 @@ record_determines (Ok (Conflicts t u)) (Err n) e = differ e (λ h. omega arith)
 record_determines (Err n) (Ok (Clear s)) e = differ e (λ h. omega arith)
 record_determines (Err n) (Ok (Conflict t)) e = differ e (λ h. omega arith)
 record_determines (Err n) (Ok (Conflicts t u)) e = differ e (λ h. omega arith)
-record_determines (Err n) (Err m) e = ap Err (values 0 e)
+record_determines (Err r) (Err s) e = ap Err (number_determines r s (values 0 e))

@@ -125,7 +125,7 @@ accepts : (l : List Check) → AllPass l → first_refusal l ≡ Ok tt
 accepts [] a = refl
 accepts (c ∷ l) a = go c.passes a.0 (accepts l a.1)
   where
-    go : (b : Bool) → T b → first_refusal l ≡ Ok tt → cond b (first_refusal l) (Err c.number) ≡ Ok tt
+    go : (b : Bool) → T b → first_refusal l ≡ Ok tt → cond b (first_refusal l) (Err c.refusal) ≡ Ok tt
     go true t h = h
     go false t h = absurd t
 

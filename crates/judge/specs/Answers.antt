@@ -7,6 +7,7 @@ use Rattle.question.specs.declared.Question.{Question}
 use Rattle.verdict.specs.declared.ClearSides.{ClearSides}
 use Rattle.verdict.specs.declared.Verdict.{Verdict}
 use Rattle.verdict.specs.declared.Verdict.TheVariants.{Clear, Conflict, Conflicts}
+use Rattle.question.specs.RefusalNumbers.{refusal_number}
 use Rattle.question.specs.Refusals.{refusal}
 use Rattle.sensed.specs.Sensed.{sensed_question}
 use Rattle.verdict.specs.Verdicts.{verdict}
@@ -15,7 +16,7 @@ use Rattle.question.specs.declared.refusal.Refusal.{Refusal}
 -- refused, or else judged
 abbrev pub checked_answer : Result ⊤ Refusal → Verdict → Result Verdict Refusal
 checked_answer (Ok _) v = Ok v
-checked_answer (Err n) v = Err n
+checked_answer (Err why) v = Err why
 
 unfoldable pub answer : Encounter → Settings → Question → Result Verdict Refusal
 unfolding refusal sensed_question verdict
@@ -45,4 +46,4 @@ abbrev pub answer_record : Result Verdict Refusal → AnswerRecord
 answer_record (Ok (Clear sides)) = answers 65 (sides_number sides ∷ [])
 answer_record (Ok (Conflict t)) = answers 66 (time_numbers t)
 answer_record (Ok (Conflicts t u)) = answers 67 (time_numbers t ++ time_numbers u)
-answer_record (Err n) = answers 68 (n ∷ [])
+answer_record (Err why) = answers 68 (refusal_number why ∷ [])
