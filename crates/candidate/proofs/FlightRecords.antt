@@ -1,43 +1,15 @@
 -- The number and values of an answer to a flight determine it. Assumes nothing.
 use Rattle.std.specs.Prelude.{Option, Some, None, Result, Ok, Err}
-use mathlib.Core.Path.{◌≡◌, refl, sym, ap, ap₂, ◌∙◌}
+use mathlib.Core.Path.{◌≡◌, refl, ap, ap₂}
 use mathlib.Core.Bool.{Bool, true, false}
-use mathlib.Core.List.{List, [], ◌∷◌}
-use Prim.Native.Nat.{ℕ, ◌-◌}
+use Prim.Native.Nat.{ℕ}
 use native.Mathlib.Omega.{arith}
 use lib.ListN.{get_or}
 use Rattle.question.specs.declared.refusal.Refusal.{Refusal}
-use Rattle.question.specs.RefusalNumbers.{refusal_number}
+use Rattle.question.proofs.RefusalNumbers.{number_determines}
 use Rattle.judge.specs.Answers.{AnswerRecord}
 use Rattle.candidate.specs.declared.Flown.{Flown}
 use Rattle.candidate.specs.FlightAnswers.{yes_number, inside_numbers, flight_record}
-
--- ---- a number is that of one refusal
-abbrev numbered : List Refusal
-numbered = Refusal.EncounterOutside ∷ Refusal.EncounterOutside ∷ Refusal.PuckOutside ∷ Refusal.DelayAccelerationOutside ∷ Refusal.SidesOrSenseUnknown ∷ Refusal.TargetOutside ∷ Refusal.TimesOutside ∷ Refusal.NoEncounter ∷ Refusal.CodeUnknown ∷ Refusal.CodeNotJudged ∷ Refusal.SheetTooLong ∷ Refusal.KindUnknown ∷ Refusal.RecordCutShort ∷ Refusal.AreaTooShort ∷ Refusal.StrengthOutside ∷ Refusal.UpperTargetBelow ∷ Refusal.UpperFieldsUsed ∷ Refusal.NeverIssued ∷ Refusal.FlightOutside ∷ []
-
-held : (n : Refusal) → get_or numbered (refusal_number n) Refusal.EncounterOutside ≡ n
-held Refusal.EncounterOutside = refl
-held Refusal.PuckOutside = refl
-held Refusal.DelayAccelerationOutside = refl
-held Refusal.SidesOrSenseUnknown = refl
-held Refusal.TargetOutside = refl
-held Refusal.TimesOutside = refl
-held Refusal.NoEncounter = refl
-held Refusal.CodeUnknown = refl
-held Refusal.CodeNotJudged = refl
-held Refusal.SheetTooLong = refl
-held Refusal.KindUnknown = refl
-held Refusal.RecordCutShort = refl
-held Refusal.AreaTooShort = refl
-held Refusal.StrengthOutside = refl
-held Refusal.UpperTargetBelow = refl
-held Refusal.UpperFieldsUsed = refl
-held Refusal.NeverIssued = refl
-held Refusal.FlightOutside = refl
-
-same_refusal : (n m : Refusal) → refusal_number n ≡ refusal_number m → n ≡ m
-same_refusal n m e = sym (held n) ∙ ap (λ (i : ℕ). get_or numbered i Refusal.EncounterOutside) e ∙ held m
 
 kind : {a b : AnswerRecord} → a ≡ b → a.kind ≡ b.kind
 kind e = ap (λ (r : AnswerRecord). r.kind) e
@@ -58,7 +30,7 @@ same_inside (Some i) None e f = absurd (omega arith)
 same_inside (Some i) (Some j) e f = ap Some f
 
 pub flight_determined : (a b : Result Flown Refusal) → flight_record a ≡ flight_record b → a ≡ b
-flight_determined (Err n) (Err m) e = ap Err (same_refusal n m (value 0 e))
+flight_determined (Err n) (Err m) e = ap Err (number_determines n m (value 0 e))
 flight_determined (Err n) (Ok g) e = absurd (omega (arith, kind e))
 flight_determined (Ok f) (Err m) e = absurd (omega (arith, kind e))
 flight_determined (Ok f) (Ok g) e =
