@@ -6,7 +6,7 @@ ghost use Rattle.candidate.specs.Advice.{asked, flight_refusal};
 ghost use Rattle.candidate.specs.FlightAnswers.{flight_answer};
 
 use flown::{first_inside, flight_obeys};
-use question::{Encounter, Question, Refusal, Settings, sense_of};
+use question::{AcceptedQuestion, Encounter, Question, Refusal, Settings, sense_of};
 use refusals::check_question;
 use sensed::sensed_question;
 use stretches::flight_within;
@@ -73,7 +73,11 @@ pub fn judge_flight(
 {
     check_flight(encounter, settings, advice, flight)?;
     let question = asked(advice);
-    let s = sensed_question(encounter, settings, question);
+    let s = sensed_question(AcceptedQuestion {
+        encounter,
+        settings,
+        question,
+    });
     let w = sense_of(question);
     Ok(Flown {
         obeys: flight_obeys(s, w, flight),
