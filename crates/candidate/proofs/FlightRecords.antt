@@ -1,14 +1,15 @@
 -- The number and values of an answer to a flight determine it. Assumes nothing.
-use Rattle.std.specs.Prelude.{Err, None, Result, Some}
-use mathlib.Core.Path.{◌≡◌, refl, ap}
+use Rattle.std.specs.Prelude.{Option, Some, None, Result, Ok, Err}
+use mathlib.Core.Path.{◌≡◌, refl, ap, ap₂}
 use mathlib.Core.Bool.{Bool, true, false}
 use Prim.Native.Nat.{ℕ}
 use native.Mathlib.Omega.{arith}
 use lib.ListN.{get_or}
-use Rattle.judge.specs.Answers.{AnswerRecord}
-use Rattle.candidate.specs.FlightAnswers.{yes_number, flight_record}
 use Rattle.question.specs.declared.refusal.Refusal.{Refusal}
+use Rattle.question.proofs.RefusalNumbers.{number_determines}
+use Rattle.judge.specs.Answers.{AnswerRecord}
 use Rattle.candidate.specs.declared.Flown.{Flown}
+use Rattle.candidate.specs.FlightAnswers.{yes_number, inside_numbers, flight_record}
 
 kind : {a b : AnswerRecord} → a ≡ b → a.kind ≡ b.kind
 kind e = ap (λ (r : AnswerRecord). r.kind) e
@@ -22,13 +23,15 @@ same_yes false false e = refl
 same_yes true false e = absurd (omega arith)
 same_yes false true e = absurd (omega arith)
 
+same_inside : (a b : Option ℕ) → get_or (inside_numbers a) 0 0 ≡ get_or (inside_numbers b) 0 0 → get_or (inside_numbers a) 1 0 ≡ get_or (inside_numbers b) 1 0 → a ≡ b
+same_inside None None e f = refl
+same_inside None (Some j) e f = absurd (omega arith)
+same_inside (Some i) None e f = absurd (omega arith)
+same_inside (Some i) (Some j) e f = ap Some f
+
 pub flight_determined : (a b : Result Flown Refusal) → flight_record a ≡ flight_record b → a ≡ b
-flight_determined (Err n) (Err m) e = ap Err (value 0 e)
-flight_determined (Err n) (Flown o None) e = absurd (omega (arith, kind e))
-flight_determined (Err n) (Flown o (Some i)) e = absurd (omega (arith, kind e))
-flight_determined (Flown o None) (Err m) e = absurd (omega (arith, kind e))
-flight_determined (Flown o (Some i)) (Err m) e = absurd (omega (arith, kind e))
-flight_determined (Flown o None) (Flown p None) e = ap (λ (b : Bool). Flown b None) (same_yes o p (value 0 e))
-flight_determined (Flown o None) (Flown p (Some j)) e = absurd (omega (arith, value 1 e))
-flight_determined (Flown o (Some i)) (Flown p None) e = absurd (omega (arith, value 1 e))
-flight_determined (Flown o (Some i)) (Flown p (Some j)) e = let f = same_yes o p (value 0 e) in let g = value 2 e in cc
+flight_determined (Err n) (Err m) e = ap Err (number_determines n m (value 0 e))
+flight_determined (Err n) (Ok g) e = absurd (omega (arith, kind e))
+flight_determined (Ok f) (Err m) e = absurd (omega (arith, kind e))
+flight_determined (Ok f) (Ok g) e =
+    ap₂ (λ (o : Bool) (i : Option ℕ). Ok (record { obeys = o; inside = i })) (same_yes f.obeys g.obeys (value 0 e)) (same_inside f.inside g.inside (value 1 e) (value 2 e))

@@ -12,7 +12,7 @@ ghost use Rattle.second.specs.inner.SecondSizes.{MotionSizes};
 ghost use Rattle.flown.specs.inner.Places.{motion_after, PlaceAt};
 
 use advisory::Sense;
-use flight::{PuckEntry, Stretch};
+use flight::Stretch;
 use path::SensedQuestion;
 use second::{Motion, crosses_in_second, inside_at, obeys_in_second};
 use sensed::sign_of;

@@ -1,7 +1,7 @@
 // The path on the screen: the pieces of the lower path with 64-bit floats, and the point of each whole second. `specs/` says what they are.
 #![tactic(auto)]
 
-ghost use Rattle.std.specs.Prelude.{◌≡◌, ◌≤◌};
+ghost use Rattle.std.specs.Prelude.{◌≡◌, ◌≤◌, IfOk, IfErr, Err};
 ghost use Rattle.path.specs.inner.Sizes.{Sizes};
 ghost use Rattle.pieces.specs.Pieces.{last_second};
 ghost use Rattle.pieces.specs.inner.PieceSizes.{PieceSizes};
@@ -11,8 +11,8 @@ ghost use Rattle.screen.specs.Points.{evaluated, point_at, point_refusal, screen
 use instant::{Time, lowest_terms};
 use path::SensedQuestion;
 use pieces::{WholePiece, arc_piece, delay_piece, last_piece, missing_speed, piece_at};
-use question::{Encounter, Question, Refusal, Settings};
-use refusals::check_question;
+use question::{AcceptedQuestion, Encounter, Question, Refusal, Settings};
+use refusals::accept;
 use sensed::sensed_question;
 
 // The last second that is drawn.
@@ -98,8 +98,8 @@ pub fn screen_drawing(
 ) -> Result<Drawing, Refusal>
     ensures { content result ≡ screen_drawing encounter settings question }
 {
-    check_question(encounter, settings, question)?;
-    Ok(drawing_of(sensed_question(encounter, settings, question)))
+    let asked = accept(encounter, settings, question)?;
+    Ok(drawing_of(sensed_question(asked)))
 }
 
 // The constant coefficient is added last: it is +0 where it is 0, so no −0 comes out.
@@ -127,23 +127,25 @@ fn point_at(s: SensedQuestion, second: u64) -> ScreenPoint
 
 // A second above 600 gets 6, after the refusals of the entry for plain numbers.
 #[tactic(auto, using(crate::proofs::PointChecks::in_time_lem, crate::proofs::PointChecks::late_second, crate::proofs::PointChecks::refused_point))]
-fn check_point(
+fn accept_second(
     encounter: Encounter,
     settings: Settings,
     question: Question,
     second: u64,
-) -> Result<(), Refusal>
-    ensures { result ≡ point_refusal encounter settings question second }
+) -> Result<AcceptedQuestion, Refusal>
+    ensures in_time { IfOk result (λ asked. second ≤ last_second) }
+    ensures same { IfOk result (λ asked. (asked.encounter ≡ encounter) × (asked.settings ≡ settings) × (asked.question ≡ question)) }
+    ensures refused { IfErr result (λ why. point_refusal encounter settings question second ≡ Err why) }
 {
-    check_question(encounter, settings, question)?;
+    let asked = accept(encounter, settings, question)?;
     if LAST_SECOND < second {
         return Err(Refusal::TimesOutside);
     }
-    Ok(())
+    Ok(asked)
 }
 
 // The entry for a screen point: any 64-bit values.
-#[tactic(auto, using(sensed::proofs::AcceptedSizes::accepted_sizes, crate::proofs::PointChecks::accepted_point), unfolding(crate::specs::Points::screen_point))]
+#[tactic(auto, using(sensed::proofs::AcceptedSizes::accepted_sizes, crate::proofs::PointChecks::in_time_lem), unfolding(crate::specs::Points::screen_point))]
 pub fn screen_point(
     encounter: Encounter,
     settings: Settings,
@@ -152,6 +154,6 @@ pub fn screen_point(
 ) -> Result<ScreenPoint, Refusal>
     ensures { result ≡ screen_point encounter settings question second }
 {
-    check_point(encounter, settings, question, second)?;
-    Ok(point_at(sensed_question(encounter, settings, question), second))
+    let asked = accept_second(encounter, settings, question, second)?;
+    Ok(point_at(sensed_question(asked), second))
 }
