@@ -1,5 +1,5 @@
 -- The first line ends behind the first of its end's bytes, or with the bytes.
-use Rattle.std.proofs.Common.{◌≡◌, ℕ, ◌+◌, ◌==◌, List, [], ◌∷◌, take, drop, length, refl, arith, rules, Some, None}
+use Rattle.std.proofs.Common.{◌≡◌, ℕ, ◌+◌, ◌==◌, List, [], ◌∷◌, take, drop, refl, arith, Some, None}
 use Rattle.std.specs.List.{position, position_or_len}
 use Rattle.std.specs.Io.BufRead.{take_through, drop_through}
 

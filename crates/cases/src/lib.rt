@@ -1,13 +1,14 @@
 // What the programs share that hold the judge against stored answers: a file's first line and the whole cases behind it, and a report on each file that an argument names.
 #![tactic(auto)]
 
-ghost use Rattle.std.specs.Prelude.{◌≡◌, ℕ, ◌+◌, ◌*◌, ◌%◌, ◌/◌, ◌<◌, ◌≤◌, ◌++◌, [], ◌∷◌, ◌==◌, length, take, position, OnOk, IfSome};
+ghost use Rattle.std.specs.Prelude.{◌≡◌, ℕ, ◌+◌, ◌*◌, ◌%◌, ◌/◌, ◌<◌, ◌≤◌, ◌++◌, [], ◌∷◌, ◌==◌, length, take, position, OnOk, IfSome, List};
 ghost use Rattle.std.specs.Simd.{first_chunks};
 ghost use Rattle.std.specs.Fn.{FnReturnsAt};
+ghost use Rattle.std.specs.List.{FoldsTo};
 ghost use Rattle.std.specs.Io.BufRead.{take_through, drop_through};
 ghost use Rattle.std.specs.Io.KnownBytes.{Appends};
 ghost use Rattle.cases.specs.Numbers.{encounter_in, settings_in};
-ghost use Rattle.cases.specs.Reports.{report_text};
+ghost use Rattle.cases.specs.Reports.{report_text, unread_text, WritesReport, WritesArgument};
 
 use question::{Encounter, Settings};
 use reading::{NAME_ROOM, argument, argument_count, open_named, read_full};
@@ -72,60 +73,64 @@ fn split_first_line(bytes: &[u8]) -> (&[u8], &[u8])
     }
 }
 
-fn write_report<O: Write, T: Display + Drop>(output: &mut O, line: &[u8], report: T) -> io::Result<()>
-    ensures { OnOk result (IfSome (T.output report) (λ text. Appends (O.contents output.old) (O.contents output.new) (report_text line.now text))) }
+fn write_unread<O: Write>(output: &mut O, name: &[u8]) -> io::Result<()>
+    ensures { OnOk result (Appends (O.contents output.old) (O.contents output.new) (unread_text name.now)) }
 {
-    output.write_all(line)?;
-    writeln!(output, "{report}")
+    output.write_all(name)?;
+    writeln!(output, ": cannot be read")
 }
 
-// Writes the first line of a file, as much of it as the room has, and the report on the rest.
+// Writes the name and the first line of a file, as much of it as the room has, and the report on the rest.
 pub fn report_file<I: Read, O: Write, T: Display + Drop, F: Fn(&[u8]) -> T>(
     input: &mut I,
     output: &mut O,
+    name: &[u8],
     room: &mut [u8],
     report: &F,
 ) -> io::Result<()>
     requires { F.IsAlwaysCallable report.now }
-    ensures { OnOk result (IfSome (I.remaining input.old) (λ bytes. let file = take (length room.old) bytes in
-        (found : T) × FnReturnsAt F.Fn report.now (drop_through LINE_END file) found
-            × IfSome (T.output found) (λ text. Appends (O.contents output.old) (O.contents output.new) (report_text (take_through LINE_END file) text)))) }
+    ensures { OnOk result ((file : List ℕ) × IfSome (I.remaining input.old) (λ bytes. file ≡ take (length room.old) bytes)
+        × WritesReport T.output (FnReturnsAt F.Fn report.now) (O.contents output.old) name.now file (O.contents output.new)) }
 {
+    output.write_all(name)?;
+    output.write_all(b": ")?;
     let length = read_full(input, room)?;
     let (line, cases) = split_first_line(&room[..length]);
-    write_report(output, line, report(cases))
+    output.write_all(line)?;
+    writeln!(output, "{}", report(cases))
 }
 
-fn report_argument<R: Print + Files + Env, T: Display + Drop, F: Fn(&[u8]) -> T>(
+fn report_argument<R: Files + Env, O: Write, T: Display + Drop, F: Fn(&[u8]) -> T>(
     rt: &R,
+    output: &mut O,
     k: usize,
     room: &mut [u8],
     report: &F,
 ) -> io::Result<()>
     requires { F.IsAlwaysCallable report.now }
+    ensures { OnOk result ((name : List ℕ) × WritesArgument T.output (FnReturnsAt F.Fn report.now) (O.contents output.old) name (O.contents output.new)) }
 {
     let mut name = [0u8; NAME_ROOM];
     let length = argument(rt, k, &mut name);
-    rt.write_all(&name[..length])?;
-    match open_named(rt, &name[..length]) {
-        Ok(mut file) => {
-            print!(rt; ": ")?;
-            report_file(&mut file, &mut io::writer(rt), room, report)
-        }
-        Err(_) => println!(rt; ": cannot be read"),
+    let name = &name[..length];
+    match open_named(rt, name) {
+        Ok(mut file) => report_file(&mut file, output, name, room, report),
+        Err(_) => write_unread(output, name),
     }
 }
 
 // Reports on each file that an argument names.
-pub fn report_arguments<R: Print + Files + Env, T: Display + Drop, F: Fn(&[u8]) -> T>(
+pub fn report_arguments<R: Files + Env, O: Write, T: Display + Drop, F: Fn(&[u8]) -> T>(
     rt: &R,
+    output: &mut O,
     room: &mut [u8],
     report: &F,
 ) -> io::Result<()>
     requires { F.IsAlwaysCallable report.now }
+    ensures { OnOk result ((names : List (List ℕ)) × FoldsTo (WritesArgument T.output (FnReturnsAt F.Fn report.now)) (O.contents output.old) names (O.contents output.new)) }
 {
     for k in 1..argument_count(rt) {
-        report_argument(rt, k, room, report)?;
+        report_argument(rt, output, k, room, report)?;
     }
     Ok(())
 }

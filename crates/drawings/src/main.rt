@@ -75,10 +75,10 @@ struct Report {
 
 // A float's bit pattern: those of 0 and −0 differ.
 fn pattern(x: f64) -> Option<u64> {
-    if x == x {
-        return Some(x.to_bits());
+    if x.is_nan() {
+        return None;
     }
-    None
+    Some(x.to_bits())
 }
 
 impl From<PieceResult> for Piece {
@@ -272,5 +272,5 @@ fn report_on(bytes: &[u8]) -> Report {
 }
 
 fn main(rt: HostRuntime) -> io::Result<()> {
-    report_arguments(&rt, &mut [0u8; ROOM], &report_on)
+    report_arguments(&rt, &mut rt.stdout(), &mut [0u8; ROOM], &report_on)
 }

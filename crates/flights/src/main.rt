@@ -5,6 +5,7 @@
 #![tactic(auto)]
 
 ghost use Rattle.std.specs.Prelude.{◌≡◌, ◌+◌, ◌^◌, ◌<◌, ◌≤◌, length, IfSome};
+ghost use Rattle.flights.specs.declared.TheConstants.{FLIGHT_ROOM};
 
 use candidate::{Flown, OneSidedAdvice, judge_flight};
 use cases::{encounter_in, report_arguments, settings_in};
@@ -21,11 +22,13 @@ const FLIGHT_ROOM: usize = 65536;
 
 const ROOM: usize = 131072;
 
-// A case's first numbers, and those of its flight that follow.
+// A case's first numbers, how many its flight has, and those of the flight that follow.
 #[derive(Clone, Copy)]
 struct Case<'a> {
     head: [u64; HEAD],
+    count: usize,
     given: &'a [[u8; 8]],
+    ghost room: { count ≤ FLIGHT_ROOM },
 }
 
 // An answer's numbers: the refusal, or 0 and then 1 if the flight obeys, 1 if it is inside, and the second; what is not used is 0.
@@ -58,15 +61,16 @@ fn split_case(numbers: &[[u8; 8]]) -> Option<(Case<'_>, &[[u8; 8]])>
 {
     let (head, rest) = numbers.split_first_chunk::<HEAD>()?;
     let head = head.map(u64::from_be_bytes);
-    if head[13] > FLIGHT_ROOM as u64 || head[14] > head[13] {
+    let count = head[13] as usize;
+    let given = head[14] as usize;
+    if FLIGHT_ROOM < count || count < given {
         return None;
     }
-    let given = head[14] as usize;
     if rest.len() < given {
         return None;
     }
     let (given, rest) = rest.split_at(given);
-    Some((Case { head, given }, rest))
+    Some((Case { head, count, given }, rest))
 }
 
 fn advice_in(head: &[u64; HEAD]) -> OneSidedAdvice {
@@ -84,12 +88,11 @@ fn answer_to(case: Case<'_>) -> Result<Flown, Refusal> {
     for (number, bytes) in room.iter_mut().zip(case.given) {
         *number = i64::from_be_bytes(*bytes);
     }
-    let count = (case.head[13] as usize).min(FLIGHT_ROOM);
     judge_flight(
         encounter_in(&case.head),
         settings_in(&case.head),
         advice_in(&case.head),
-        &room[..count],
+        &room[..case.count],
     )
 }
 
@@ -174,5 +177,5 @@ fn report_on(bytes: &[u8]) -> Report {
 }
 
 fn main(rt: HostRuntime) -> io::Result<()> {
-    report_arguments(&rt, &mut [0u8; ROOM], &report_on)
+    report_arguments(&rt, &mut rt.stdout(), &mut [0u8; ROOM], &report_on)
 }

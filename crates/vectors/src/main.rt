@@ -168,5 +168,5 @@ fn report_on(bytes: &[u8]) -> Report {
 }
 
 fn main(rt: HostRuntime) -> io::Result<()> {
-    report_arguments(&rt, &mut [0u8; ROOM], &report_on)
+    report_arguments(&rt, &mut rt.stdout(), &mut [0u8; ROOM], &report_on)
 }
