@@ -2,9 +2,9 @@
 use Rattle.std.specs.Prelude.{Err, Ok, Result}
 use mathlib.Core.Path.{◌≡◌, sym, ap, ◌∙◌}
 use mathlib.Core.List.{List, [], ◌∷◌, ◌++◌}
-use Prim.Native.Nat.{ℕ}
+use Prim.Native.Nat.{ℕ, ◌≤◌}
 use native.Mathlib.Omega.{arith}
-use lib.ListN.{length, drop, replicate, set, length-replicate}
+use lib.ListN.{length, drop, replicate, set, length-append, length-replicate}
 use Rattle.reply.proofs.Writing.{two_stores, stored_first}
 use Rattle.sheet.specs.WholeSheet.{sheet_answer, outcome, area_for, area_after}
 use Rattle.sheet.proofs.OutcomeRecords.{accepted_length}
@@ -43,3 +43,7 @@ refused_output s area byte why e same number =
           ∙ stored_first (69 ∷ byte ∷ []) blank (omega (arith, length-replicate {A = ℕ} answer_room 0))
           ∙ ap area_with written,
     )
+
+-- the bytes to write are within the area
+pub output_fits : (s : List ℕ) {n : ℕ} {area : List ℕ} → (n ≡ length (program_output s)) × (area ≡ area_with (program_output s)) → n ≤ length area
+output_fits s e = omega (arith, e.0, ap length e.1, length-append (program_output s) (drop (length (program_output s)) blank))
