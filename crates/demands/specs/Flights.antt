@@ -17,18 +17,19 @@ use Rattle.candidate.proofs.RefusedAsAsked as advice
 use Rattle.binding.specs.declared.FlightResult.{FlightResult}
 use Rattle.question.specs.declared.refusal.Refusal.{Refusal}
 use Rattle.candidate.specs.declared.Flown.{Flown}
+use Rattle.question.specs.RefusalNumbers.{refusal_number}
 
 -- "Say whether it obeys a one-sided advice", over every rational time; "Say also whether it is inside the puck .., and if so the least whole number of seconds n"
-abbrev pub FlownAs : Encounter → Settings → OneSidedAdvice → List ℤ → Result Flown Refusal → Type 0
+abbrev pub FlownAs : Encounter → Settings → OneSidedAdvice → List ℤ → Result Flown ℕ → Type 0
 FlownAs x y z l answer =
     let s = advice_in_sense x y z in
     let flight = flight_in_sense z l in
-    (obeys : Bool) × (entry : Option ℕ) × (answer ≡ FlightAnswer.Flown obeys entry) × ((obeys ≡ true) ↔ Obeys s flight) × RightEntry s flight entry
+    (obeys : Bool) × (entry : Option ℕ) × (answer ≡ Ok (record { obeys = obeys; inside = entry })) × ((obeys ≡ true) ↔ Obeys s flight) × RightEntry s flight entry
 
 -- "It refuses with 18 a flight outside these sizes, after the refusals of encounter, puck, e and advice."
-pub record RightlyFlown (x : Encounter) (y : Settings) (z : OneSidedAdvice) (l : List ℤ) (answer : Result Flown Refusal) : Type 0 where
+pub record RightlyFlown (x : Encounter) (y : Settings) (z : OneSidedAdvice) (l : List ℤ) (answer : Result Flown ℕ) : Type 0 where
   -- the first of 1, 2, 3, 4, 5, 14, 6, 18 whose condition the numbers meet
-  pub refused : (number : ℕ) → flight_refusal x y z l ≡ Err number → answer ≡ Err number
+  pub refused : (why : Refusal) → flight_refusal x y z l ≡ Err why → answer ≡ Err (refusal_number why)
   pub flown : flight_refusal x y z l ≡ Ok tt → FlownAs x y z l answer
 
 -- the refusals of encounter, puck, e and advice are those of the judge for the one-sided question that the advice asks
@@ -39,8 +40,8 @@ refused_as_asked = advice.refused_as_asked
 -- the question that the advice asks, `answer` the answer to a flight against it. For the verdict "conflict" nothing is promised of flights: see M5, below.
 pub record ClearKeepsOut (x : Encounter) (y : Settings) (z : OneSidedAdvice) (l : List ℤ) (judged : Result Verdict Refusal) (answer : Result Flown Refusal) : Type 0 where
   -- where a flight is not refused, neither is the question
-  pub judged_too : (obeys : Bool) (entry : Option ℕ) → answer ≡ FlightAnswer.Flown obeys entry → (verdict : Verdict) × (judged ≡ Ok verdict)
-  pub kept_out : (sides : ClearSides) (entry : Option ℕ) → judged ≡ Ok (Clear sides) → answer ≡ FlightAnswer.Flown true entry → NeverInside (advice_in_sense x y z) (flight_in_sense z l)
+  pub judged_too : (flown : Flown) → answer ≡ Ok flown → (verdict : Verdict) × (judged ≡ Ok verdict)
+  pub kept_out : (sides : ClearSides) (flown : Flown) → judged ≡ Ok (Clear sides) → answer ≡ Ok flown → flown.obeys ≡ true → NeverInside (advice_in_sense x y z) (flight_in_sense z l)
 
 -- Of two flights that obey the advice of M5, a conflict, one is inside and the other is not.
 pub m5_inside : Obeys examples.m5 (examples.in_m5 examples.just) × RightEntry examples.m5 (examples.in_m5 examples.just) (Some 2)
@@ -50,5 +51,5 @@ pub m5_outside : Obeys examples.m5 (examples.in_m5 examples.quick) × RightEntry
 m5_outside = examples.m5_outside
 
 -- the answer in the struct of numbers that C and Rust get
-abbrev pub flight_in : FlightResult → Result Flown Refusal
-flight_in f = cond (eqb f.refusal 0) (FlightAnswer.Flown (eqb f.obeys 1) (cond (eqb f.inside 0) None (Some f.second))) (Err f.refusal)
+abbrev pub flight_in : FlightResult → Result Flown ℕ
+flight_in f = cond (eqb f.refusal 0) (Ok (record { obeys = eqb f.obeys 1; inside = cond (eqb f.inside 0) None (Some f.second) })) (Err f.refusal)

@@ -21,7 +21,7 @@ JudgedAs x y z answer = (verdict : Verdict) × (answer ≡ Ok verdict) × Demand
 
 pub record RightlyAnswered (x : Encounter) (y : Settings) (z : Question) (answer : Result Verdict Refusal) : Type 0 where
   -- the first of 1, 2, 3, 4, 5, 14, 15, 16, 6 whose condition the numbers meet
-  pub refused : (number : ℕ) → refusal x y z ≡ Err number → answer ≡ Err number
+  pub refused : (why : Refusal) → refusal x y z ≡ Err why → answer ≡ Err why
   pub judged : refusal x y z ≡ Ok tt → JudgedAs x y z answer
   pub one_sided_lem : refusal x y z ≡ Ok tt → two_sided z ≡ false → Demand2 x y z answer
   -- "The band between the paths" (document 02)

@@ -6,10 +6,12 @@ use Rattle.sheet.specs.WholeSheet.{sheet_answer}
 use Rattle.program.specs.Output.{read_of, program_output}
 use Rattle.program.proofs.ReadEnough as read
 use Rattle.demands.specs.Sheets.{EachRecord}
+use Rattle.question.specs.RefusalNumbers.{refusal_number}
+use Rattle.question.specs.declared.refusal.Refusal.{Refusal}
 
 -- what is written for what was read
 pub record Written (sheet output : List ℕ) : Type 0 where
-  pub refused : (number : ℕ) → sheet_check sheet ≡ Err number → output ≡ 69 ∷ number ∷ []
+  pub refused : (why : Refusal) → sheet_check sheet ≡ Err why → output ≡ 69 ∷ refusal_number why ∷ []
   pub answered : sheet_check sheet ≡ Ok tt → (output ≡ sheet_answer sheet) × EachRecord sheet output
 
 -- "The program reads a sheet from standard input": of a longer input than 8,193 bytes these are enough

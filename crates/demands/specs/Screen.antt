@@ -18,13 +18,14 @@ use Rattle.screen.specs.declared.Piece.{Piece}
 use Rattle.screen.specs.declared.DrawnPiece.{DrawnPiece}
 use Rattle.screen.specs.declared.ScreenPoint.{ScreenPoint}
 use Rattle.screen.specs.Floats.{float, Exactly}
-use Rattle.screen.specs.Drawings.{float_piece, Content, refused, drawn}
+use Rattle.screen.specs.Drawings.{float_piece}
 use Rattle.screen.specs.Points.{evaluated}
 use Rattle.screen.specs.RightScreen.{ExactOnTheWay}
 use Rattle.binding.specs.declared.PieceResult.{PieceResult}
 use Rattle.binding.specs.declared.DrawingResult.{DrawingResult}
 use Rattle.binding.specs.declared.PointResult.{PointResult}
 use Rattle.question.specs.declared.refusal.Refusal.{Refusal}
+use Rattle.question.specs.RefusalNumbers.{refusal_number}
 
 -- a 64-bit float whose value is exactly the whole number z: z's own float, so that 0 is +0
 abbrev pub IsFloat : Float → ℤ → Type 0
@@ -95,9 +96,9 @@ pub record DrawsPath (s : SensedQuestion) (l : List DrawnPiece) : Type 0 where
   pub each : EachDraws s l
 
 -- "the other refusals are those of the entry for plain numbers"
-pub record RightlyDrawn (x : Encounter) (y : Settings) (z : Question) (c : Content) : Type 0 where
-  pub refused : (number : ℕ) → refusal x y z ≡ Err number → c ≡ refused number
-  pub drawn : refusal x y z ≡ Ok tt → (l : List DrawnPiece) × (c ≡ drawn l) × DrawsPath (sensed_question x y z) l
+pub record RightlyDrawn (x : Encounter) (y : Settings) (z : Question) (c : Result (List DrawnPiece) ℕ) : Type 0 where
+  pub refused : (why : Refusal) → refusal x y z ≡ Err why → c ≡ Err (refusal_number why)
+  pub drawn : refusal x y z ≡ Ok tt → (l : List DrawnPiece) × (c ≡ Ok l) × DrawsPath (sensed_question x y z) l
 
 -- "A screen point holds a time and a height as two 64-bit floats": the second, and 2 × a × f there; "since every operation on the way is exact"
 pub record OnPath (s : SensedQuestion) (t : ℕ) (p : ScreenPoint) : Type 0 where
@@ -106,9 +107,9 @@ pub record OnPath (s : SensedQuestion) (t : ℕ) (p : ScreenPoint) : Type 0 wher
   pub way : let held = piece_at s (t ÷ 1) in ExactOnTheWay held (float_piece held) (pos t) p.time
 
 -- "A second above 600 gets 6", after 1 to 5
-pub record RightlyPlaced (x : Encounter) (y : Settings) (z : Question) (t : ℕ) (r : Result ScreenPoint Refusal) : Type 0 where
-  pub refused : (number : ℕ) → refusal x y z ≡ Err number → r ≡ Err number
-  pub late : refusal x y z ≡ Ok tt → 600 < t → r ≡ Err Refusal.TimesOutside
+pub record RightlyPlaced (x : Encounter) (y : Settings) (z : Question) (t : ℕ) (r : Result ScreenPoint ℕ) : Type 0 where
+  pub refused : (why : Refusal) → refusal x y z ≡ Err why → r ≡ Err (refusal_number why)
+  pub late : refusal x y z ≡ Ok tt → 600 < t → r ≡ Err 6
   pub drawn : refusal x y z ≡ Ok tt → t ≤ 600 → (p : ScreenPoint) × (r ≡ Ok p) × OnPath (sensed_question x y z) t p
 
 -- the drawing and the point in the structs of numbers that C and Rust get
@@ -118,8 +119,8 @@ time_in f = record { seconds = f.seconds; remainder = f.remainder; divisor = f.d
 abbrev pub piece_in : PieceResult → DrawnPiece
 piece_in f = record { from = time_in f; piece = cond (eqb f.kind 2) (Piece.Arc f.square f.linear f.constant) (Piece.Straight f.linear f.constant) }
 
-abbrev pub content_in : DrawingResult → Content
-content_in f = cond (eqb f.refusal 0) (drawn (take f.pieces (piece_in f.first ∷ piece_in f.second ∷ piece_in f.third ∷ []))) (refused f.refusal)
+abbrev pub content_in : DrawingResult → Result (List DrawnPiece) ℕ
+content_in f = cond (eqb f.refusal 0) (Ok (take f.pieces (piece_in f.first ∷ piece_in f.second ∷ piece_in f.third ∷ []))) (Err f.refusal)
 
-abbrev pub point_in : PointResult → Result ScreenPoint Refusal
+abbrev pub point_in : PointResult → Result ScreenPoint ℕ
 point_in f = cond (eqb f.refusal 0) (Ok (record { time = f.time; height = f.height })) (Err f.refusal)

@@ -27,6 +27,7 @@ use Rattle.demands.specs.Maintain.{NeverIssued, MaintainAnswered}
 use Rattle.demands.specs.PlainAnswer.{RightlyAnswered}
 use Rattle.question.specs.declared.refusal.Refusal.{Refusal}
 use Rattle.verdict.specs.declared.Verdict.{Verdict}
+use Rattle.question.specs.RefusalNumbers.{refusal_number}
 
 -- ---- a record of a sheet: `earlier` are the records before it, `later` those after it
 module _ (answers : List ℕ) (earlier : List Record) (given : Record) (later : List Record) where
@@ -65,14 +66,14 @@ module _ (answers : List ℕ) (earlier : List Record) (given : Record) (later : 
 abbrev pub EachRecord : List ℕ → List ℕ → Type 0
 EachRecord sheet answers = (earlier : List Record) (given : Record) (later : List Record) → records sheet ≡ earlier ++ (given ∷ later) → RecordAnswered answers earlier given later
 
--- ---- the whole sheet, the area before and after, and the outcome
-pub record SheetAnswered (sheet before after : List ℕ) (o : Result ℕ Refusal) : Type 0 where
+-- ---- the whole sheet, the area before and after, and the outcome: the answer's length, or the refusal's number
+pub record SheetAnswered (sheet before after : List ℕ) (o : Result ℕ ℕ) : Type 0 where
   -- "10 longer than 8,192 bytes"
-  pub too_long : longest_sheet < length sheet → o ≡ Err Refusal.SheetTooLong
+  pub too_long : longest_sheet < length sheet → o ≡ Err 10
   -- "11 unknown kind; 12 a body cut short; the earlier in the sheet is reported"
-  pub faulty : length sheet ≤ longest_sheet → (number : ℕ) → fault_after 0 sheet ≡ Err number → o ≡ Err number
+  pub faulty : length sheet ≤ longest_sheet → (why : Refusal) → fault_after 0 sheet ≡ Err why → o ≡ Err (refusal_number why)
   -- "13, the answer area is shorter than the whole answer, tested after 10 to 12"
-  pub too_short : sheet_check sheet ≡ Ok tt → length before < length (sheet_answer sheet) → o ≡ Err Refusal.AreaTooShort
+  pub too_short : sheet_check sheet ≡ Ok tt → length before < length (sheet_answer sheet) → o ≡ Err 13
   pub accepted : sheet_check sheet ≡ Ok tt → length (sheet_answer sheet) ≤ length before → o ≡ Ok (length (sheet_answer sheet))
   -- "no byte changed"
   pub unchanged : (number : ℕ) → o ≡ Err number → after ≡ before
@@ -81,7 +82,7 @@ pub record SheetAnswered (sheet before after : List ℕ) (o : Result ℕ Refusal
   pub each : EachRecord sheet (sheet_answer sheet)
 
 -- the outcome in the two numbers that C and Rust get
-abbrev pub outcome_in : SheetResult → Result ℕ Refusal
+abbrev pub outcome_in : SheetResult → Result ℕ ℕ
 outcome_in r = cond (eqb r.refusal 0) (Ok r.length) (Err r.refusal)
 
 -- ---- "settings and encounter unchanged", and within their limits, whatever records a sheet has had
