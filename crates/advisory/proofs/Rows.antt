@@ -33,3 +33,8 @@ search_end_lem [] zero code e = refl
 search_end_lem [] (suc place) code e = refl
 search_end_lem (q ∷ rows) zero code e = let z : ◌≡◌ {A = ℕ} 0 1 = cc in absurd (omega arith)
 search_end_lem (q ∷ rows) (suc place) code e = search_end_lem rows place code e
+
+-- from a place before the end on: the row there, if it has the code, or else the rows after it
+pub search_from : (rows : List Reaction) (place code : ℕ) (other : Reaction) → place < length rows
+    → row_of (drop place rows) code ≡ cond (eqb (get_or rows place other).code code) (Some (get_or rows place other)) (row_of (drop (suc place) rows) code)
+search_from rows place code other h = search_row rows place code (get_or rows place other) (row_inside rows place other h)

@@ -1,5 +1,5 @@
 -- The reaction table of document 01: "the reaction table holds one row per code: strength and delay."
-use Rattle.std.specs.Prelude.{cond, List, [], ◌∷◌, ℕ, zero, suc, ◌+◌, eqb, None, Option, Some}
+use Rattle.std.specs.Prelude.{slice_get, cond, List, [], ◌∷◌, ℕ, zero, suc, ◌+◌, eqb, None, Option, Some}
 use Rattle.advisory.specs.declared.Reaction.{Reaction}
 
 -- A row: code, strength in grains/s² and delay in seconds.
@@ -29,9 +29,7 @@ reaction_table =
 
 -- The row at a place, counted from 0.
 abbrev pub row_at : List Reaction → ℕ → Option Reaction
-row_at [] place = None
-row_at (r ∷ rows) zero = Some r
-row_at (r ∷ rows) (suc place) = row_at rows place
+row_at rows place = slice_get rows place
 
 -- The first row with this code.
 abbrev pub row_of : List Reaction → ℕ → Option Reaction

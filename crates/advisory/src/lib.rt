@@ -65,6 +65,7 @@ fn sense_of_code(code: u8) -> Sense
 }
 
 // The catalogue asks for article codes only; for others the current speed stands in.
+#[tactic(auto, unfolding(crate::specs::Catalogue::article_entries))]
 fn target_of(code: u8) -> Target
     ensures { result ≡ target_of code }
 {
@@ -90,6 +91,7 @@ fn target_of(code: u8) -> Target
 }
 
 // The article's codes, the codes that are named but not judged, and the unknown ones.
+#[tactic(auto, using(crate::proofs::CodeRanges::article_range, crate::proofs::CodeRanges::not_judged_range, crate::proofs::CodeRanges::listing_past_16), unfolding(crate::specs::Catalogue::catalogue_of))]
 pub fn catalogue(code: u8) -> Result<Advice, CodeError>
     ensures { result ≡ catalogue_of code }
 {
@@ -191,27 +193,21 @@ const REACTION_TABLE: [Reaction; ROWS] = [
 ];
 
 // The row at a place, counted from 0; no row from the table's end on.
+#[tactic(auto, unfolding(crate::specs::ReactionTable::reaction_table))]
 pub fn reaction_row(place: usize) -> Option<Reaction>
     ensures { result ≡ row_at reaction_table place }
 {
-    if place < ROWS {
-        let row = REACTION_TABLE[place];
-        Some(row)
-    } else {
-        None
-    }
+    REACTION_TABLE.get(place).copied()
 }
 
 // The first row with this code.
+#[tactic(auto, unfolding(crate::specs::ReactionTable::reaction_table), using(crate::proofs::Rows::search_from))]
 pub fn reaction_to(code: u8) -> Option<Reaction>
     ensures { result ≡ row_of reaction_table code }
 {
-    for place in 0..ROWS {
-        let Some(row) = reaction_row(place) else {
-            return None;
-        };
+    for row in &REACTION_TABLE {
         if row.code == code {
-            return Some(row);
+            return Some(*row);
         }
     }
     None

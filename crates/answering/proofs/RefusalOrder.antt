@@ -9,7 +9,9 @@ use borrow.Author.Tests.{le-leb, lt-leb}
 use lib.Dec.{T, leb}
 use lib.IntN.{ℤ, pos, neg_ℤ}
 use lib.Signed.{le_z}
+use lib.Ieee.Bits.{is_true}
 use lib.Ieee.Fits.{and_l, and_r}
+use Rattle.std.specs.Cmp.Derive.{both_true}
 use Rattle.advisory.specs.declared.Instruction.{Instruction}
 use Rattle.advisory.specs.declared.Sense.{Sense}
 use Rattle.advisory.specs.declared.Sense.TheVariants.{Climb, Descend}
@@ -36,14 +38,7 @@ use Rattle.answering.specs.Replies.{asked_answer, coded_answer, free_answer, cod
 use Rattle.advisory.specs.declared.CodeError.{CodeError}
 use Rattle.question.specs.declared.refusal.Refusal.{Refusal}
 
--- ---- tests that hold
-truth : (b : Bool) → T b → b ≡ true
-truth true t = refl
-truth false t = absurd t
-
-both : {a b : Bool} → a ≡ true → b ≡ true → a && b ≡ true
-both {a} {b} e f = ap (λ (x : Bool). x && b) e ∙ f
-
+-- ---- tests that fail
 fails_left : {a : Bool} (b : Bool) → a ≡ false → a && b ≡ false
 fails_left b e = ap (λ (x : Bool). x && b) e
 
@@ -61,7 +56,7 @@ module _ (x : Encounter) (y : Settings) (met : T (encounter_within x)) (puck : T
   unfolding answer refusal
   plain_order z =
       refused_is (refusal x y z) (verdict z (sensed_question x y z))
-      ∙ picks_yes (encounter_within x) _ _ (truth (encounter_within x) met) ∙ picks_yes (puck_within y) _ _ (truth (puck_within y) puck) ∙ picks_yes (delay_acceleration_within y) _ _ (truth (delay_acceleration_within y) acceleration)
+      ∙ picks_yes (encounter_within x) _ _ (is_true (encounter_within x) met) ∙ picks_yes (puck_within y) _ _ (is_true (puck_within y) puck) ∙ picks_yes (delay_acceleration_within y) _ _ (is_true (delay_acceleration_within y) acceleration)
 
   -- ---- a judged code passes 4, 5 and 14 to 16, and its delay is within limits: 6 only through its limit
   own_speed : Between (neg_ℤ (pos max_speed)) (pos max_speed) x.speed
@@ -83,19 +78,19 @@ module _ (x : Encounter) (y : Settings) (met : T (encounter_within x)) (puck : T
     target_passes : speed_within (rate_of i.target x.speed) ≡ true
     target_passes =
         let t = rate_of i.target x.speed in
-        both (truth (le_z (neg_ℤ (pos max_speed)) t) (limits.target_from x.speed own_speed.from).le) (truth (le_z t (pos max_speed)) (limits.target_to x.speed own_speed.to).le)
+        both_true (is_true (le_z (neg_ℤ (pos max_speed)) t) (limits.target_from x.speed own_speed.from).le) (is_true (le_z t (pos max_speed)) (limits.target_to x.speed own_speed.to).le)
 
     strength_passes : strength_within (pos i.strength) ≡ true
-    strength_passes = both (le-leb min_strength i.strength limits.strength_from) (le-leb i.strength max_strength limits.strength_to)
+    strength_passes = both_true (le-leb min_strength i.strength limits.strength_from) (le-leb i.strength max_strength limits.strength_to)
 
     targets_pass : targets_within (instructed i x.speed limit) ≡ true
-    targets_pass = both target_passes refl
+    targets_pass = both_true target_passes refl
 
     strengths_pass : strengths_within (instructed i x.speed limit) ≡ true
-    strengths_pass = both strength_passes refl
+    strengths_pass = both_true strength_passes refl
 
     delay_passes : delay_within (pos i.delay) ≡ true
-    delay_passes = both (le-leb 0 i.delay (omega arith)) (le-leb i.delay max_delay limits.delay_to)
+    delay_passes = both_true (le-leb 0 i.delay (omega arith)) (le-leb i.delay max_delay limits.delay_to)
 
     times_by_limit : times_within (instructed i x.speed limit) ≡ limit_allowed (instructed i x.speed limit)
     times_by_limit = ap (λ (b : Bool). b && limit_allowed (instructed i x.speed limit)) delay_passes
@@ -115,9 +110,9 @@ module _ (x : Encounter) (y : Settings) (met : T (encounter_within x)) (puck : T
       → refusal_in (asked_answer x y (asked code a x.speed limit)) ≡ first_refusal (coded_checks (Some x) code limit)
   asked_order code limit (Ok i) limits stands =
       maintained_order i (limits i refl) limit (maintainable code x.speed)
-      ∙ sym (picks_yes (code_from 1 18 code) _ _ (both (le-leb 1 code (omega arith)) (le-leb code 18 (omega arith))) ∙ picks_yes (code_from 1 16 code) _ _ (both (le-leb 1 code (omega arith)) (le-leb code 16 (omega arith))))
+      ∙ sym (picks_yes (code_from 1 18 code) _ _ (both_true (le-leb 1 code (omega arith)) (le-leb code 18 (omega arith))) ∙ picks_yes (code_from 1 16 code) _ _ (both_true (le-leb 1 code (omega arith)) (le-leb code 16 (omega arith))))
   asked_order code limit (Err CodeError.NotJudged) limits stands =
-      sym (picks_yes (code_from 1 18 code) _ _ (both (le-leb 1 code (omega arith)) (le-leb code 18 (omega arith))) ∙ picks_no (code_from 1 16 code) _ _ (fails_right (leb 1 code) (lt-leb code 16 (omega arith))))
+      sym (picks_yes (code_from 1 18 code) _ _ (both_true (le-leb 1 code (omega arith)) (le-leb code 18 (omega arith))) ∙ picks_no (code_from 1 16 code) _ _ (fails_right (leb 1 code) (lt-leb code 16 (omega arith))))
   asked_order code limit (Err CodeError.Unknown) limits stands =
       sym (picks_no (code_from 1 18 code) _ _ (⊎_elim (λ low. fails_left (leb code 18) (lt-leb 1 code low)) (λ high. fails_right (leb 1 code) (lt-leb code 18 high)) stands))
 

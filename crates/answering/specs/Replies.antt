@@ -14,13 +14,13 @@ use Rattle.question.specs.declared.refusal.Refusal.{Refusal}
 use Rattle.verdict.specs.declared.Verdict.{Verdict}
 
 -- "Accepted settings write nothing"; others get their number.
-abbrev pub settings_reply : Bool → ℕ → (Option (Result Verdict Refusal))
-settings_reply accepted number = cond accepted None (Some (Err number))
+abbrev pub settings_reply : Bool → Refusal → Option (Result Verdict Refusal)
+settings_reply accepted why = cond accepted None (Some (Err why))
 
 -- a question by code that is asked, or its refusal 8, 9 or 17
 abbrev pub asked_answer : Encounter → Settings → Result Question Refusal → Result Verdict Refusal
 asked_answer x y (Ok z) = answer x y z
-asked_answer x y (Err number) = Err number
+asked_answer x y (Err why) = Err why
 
 -- "7 a question before an accepted encounter"; then "8 code outside 1 to 18; 9 code 17 or 18" and 17 by the ownship's speed; then the plain judge's answer
 unfoldable pub coded_answer : Option Encounter → Settings → ℕ → ℤ → Result Verdict Refusal
@@ -33,13 +33,12 @@ free_answer None y z = Err Refusal.NoEncounter
 free_answer (Some x) y z = answer x y z
 
 -- "1 an encounter field outside its limits; 2 puck; 3 e"
-unfoldable pub reply_to : State → Record → (Option (Result Verdict Refusal))
-reply_to state (Record.Encounter x) = settings_reply (encounter_within x) 1
-reply_to state (Record.Puck p k) = settings_reply (puck_within (with_puck state.settings p k)) 2
-reply_to state (Record.DelayAcceleration e) = settings_reply (delay_acceleration_within (with_delay_acceleration state.settings e)) 3
+unfoldable pub reply_to : State → Record → Option (Result Verdict Refusal)
+reply_to state (Record.Encounter x) = settings_reply (encounter_within x) Refusal.EncounterOutside
+reply_to state (Record.Puck p k) = settings_reply (puck_within (with_puck state.settings p k)) Refusal.PuckOutside
+reply_to state (Record.DelayAcceleration e) = settings_reply (delay_acceleration_within (with_delay_acceleration state.settings e)) Refusal.DelayAccelerationOutside
 reply_to state (Record.Coded code limit) = Some (coded_answer state.encounter state.settings code limit)
 reply_to state (Record.Free z) = Some (free_answer state.encounter state.settings z)
-reply_to state Record.Unknown = None
 
 -- The order of refusals, as one list of tests for each kind of question.
 abbrev pub present : Option Encounter → Bool
@@ -72,4 +71,4 @@ free_checks encounter z = check Refusal.NoEncounter (present encounter) ∷ ques
 -- the refusal of an answer, if it is one
 abbrev pub refusal_in : Result Verdict Refusal → Result ⊤ Refusal
 refusal_in (Ok v) = Ok tt
-refusal_in (Err number) = Err number
+refusal_in (Err why) = Err why

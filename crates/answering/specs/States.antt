@@ -5,7 +5,7 @@ use Rattle.question.specs.declared.Settings.{Settings}
 use Rattle.question.specs.StartingSettings.{starting_settings}
 use Rattle.question.specs.Refusals.{encounter_within, puck_within, delay_acceleration_within}
 use Rattle.record.specs.declared.Record.{Record}
-use Rattle.record.specs.declared.Record.TheVariants.{Puck, DelayAcceleration, Coded, Free, Unknown}
+use Rattle.record.specs.declared.Record.TheVariants.{Puck, DelayAcceleration, Coded, Free}
 use Rattle.answering.specs.declared.State.{State}
 
 -- "Every sheet starts with the puck 30,000 by 6,000, e = 966 and no encounter."
@@ -34,7 +34,6 @@ state_after state (DelayAcceleration e) =
     cond (delay_acceleration_within (with_delay_acceleration state.settings e)) (with_settings state (with_delay_acceleration state.settings e)) state
 state_after state (Coded code limit) = state
 state_after state (Free question) = state
-state_after state Unknown = state
 
 -- the state after records in order
 unfoldable pub state_after_all : State → List Record → State

@@ -9,6 +9,7 @@ use Rattle.judge.specs.Answers.{sides_number}
 use Rattle.binding.specs.declared.JudgeResult.{JudgeResult}
 use Rattle.binding.specs.declared.SheetResult.{SheetResult}
 use Rattle.question.specs.declared.refusal.Refusal.{Refusal}
+use Rattle.question.specs.RefusalNumbers.{refusal_number}
 
 -- The number is, in kind 65, "1 lower side clear, 2 upper, 3 both", and in kind 68 "the refusal number".
 abbrev pub with_times : ℕ → ℕ → Time → Time → JudgeResult
@@ -30,9 +31,9 @@ flat_verdict (Conflicts t u) = with_times 67 0 t u
 
 abbrev pub flat_answer : Result Verdict Refusal → JudgeResult
 flat_answer (Ok v) = flat_verdict v
-flat_answer (Err n) = with_times 68 n no_time no_time
+flat_answer (Err why) = with_times 68 (refusal_number why) no_time no_time
 
 -- an accepted sheet's length, or a refused sheet's number
 abbrev pub flat_outcome : Result ℕ Refusal → SheetResult
 flat_outcome (Ok written) = record { refusal = 0; length = written }
-flat_outcome (Err number) = record { refusal = number; length = 0 }
+flat_outcome (Err why) = record { refusal = refusal_number why; length = 0 }

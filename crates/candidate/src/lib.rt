@@ -6,7 +6,7 @@ ghost use Rattle.candidate.specs.Advice.{asked, flight_refusal};
 ghost use Rattle.candidate.specs.FlightAnswers.{flight_answer};
 
 use flown::{Flight, first_inside, flight_obeys};
-use question::{Encounter, Question, Refusal, Settings, sense_of};
+use question::{AcceptedQuestion, Encounter, Question, Refusal, Settings, sense_of};
 use refusals::check_question;
 use sensed::sensed_question;
 use stretches::flight_within;
@@ -73,8 +73,13 @@ pub fn judge_flight(
 {
     check_flight(encounter, settings, advice, flight)?;
     let question = asked(advice);
+    let accepted = AcceptedQuestion {
+        encounter,
+        settings,
+        question,
+    };
     let flight = Flight {
-        question: sensed_question(encounter, settings, question),
+        question: sensed_question(accepted),
         sense: sense_of(question),
         numbers: flight,
     };

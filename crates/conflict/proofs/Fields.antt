@@ -1,17 +1,19 @@
 -- The bounds of a question's and a rule's numbers, as rules for `search`. Assumes nothing.
-use mathlib.Core.Path.{◌≡◌, sym, ap, ◌∙◌}
+use mathlib.Core.Path.{◌≡◌, refl, sym, ap, ap₂, ◌∙◌}
 use mathlib.Core.List.{[], ◌∷◌}
 use Prim.Native.Nat.{ℕ, ◌+◌, ◌*◌, ◌<◌, ◌≤◌}
 use native.Mathlib.Nat.{mul-le-mul}
 use native.Mathlib.Omega.{arith}
-use lib.Dec.{lit≤}
+use lib.Dec.{T, lit≤}
 use lib.IntN.{ℤ, pos, negsuc, ◌+ℤ◌, ◌-ℤ◌, ◌*ℤ◌, nat_abs}
 use lib.Signed.{le_z}
 use mir.Syntax.{w64}
 use mir.Val.{SFits, to_z, of_z}
 use mir.Facts.{to_z-of_z}
 use Rattle.limits.specs.Limits.{max_height, max_closing_speed, max_half_height, max_strength, max_delay_acceleration, max_delay}
-use Rattle.integers.specs.Extremes.{max0}
+use Rattle.std.specs.Int.{int_max}
+use Rattle.std.proofs.lemmas.Bool.Decides.{nat_tests}
+use Rattle.integers.specs.Extremes.{max0, maxℤ}
 use Rattle.integers.proofs.Difference.{cond_by}
 use Rattle.integers.proofs.Quotation.{quote}
 use Rattle.integers.proofs.Certificates.{ring, by≤, gap≤}
@@ -105,6 +107,16 @@ pub ruleset numbers = (
   read_rule_speed,
   read_rule_edge,
 )
+
+-- the library's larger of two numbers is the paths', also of two that the code reads
+int_max_is : (x y : ℤ) → int_max x y ≡ maxℤ x y
+int_max_is (pos a) (pos b) = grind (arith, nat_tests)
+int_max_is (pos a) (negsuc b) = refl
+int_max_is (negsuc a) (pos b) = refl
+int_max_is (negsuc a) (negsuc b) = grind (arith, nat_tests)
+
+pub larger_is : {m s t : ℤ} (x : Reading s) (y : Reading t) → T x.guard → T y.guard → m ≡ int_max s t → m ≡ maxℤ x.number y.number
+larger_is x y f g h = h ∙ (ap₂ int_max (x.is f) (y.is g) ∙ int_max_is x.number y.number)
 
 -- ---- the parts of a side's delay and rule
 module _ (s : SensedQuestion) (z : Sizes s) where

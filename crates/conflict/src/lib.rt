@@ -46,11 +46,7 @@ pub fn upper_target(s: SensedQuestion) -> i64
     ensures { result ≡ upper_target s }
 {
     let speed = speed_after_delay(Side::Upper, s);
-    let target = s.upper_target;
-    if target <= speed {
-        return speed;
-    }
-    target
+    s.upper_target.max(speed)
 }
 
 // The height during the delay, times 2·m².
@@ -120,22 +116,22 @@ fn advice_rule(side: Side, s: SensedQuestion) -> AdviceRule
         Side::Lower => AdviceRule {
             strength: s.strength,
             target: s.target,
-            speed: speed,
-            edge: edge,
+            speed,
+            edge,
         },
         Side::Upper => AdviceRule {
             strength: s.upper_strength,
             target: upper_target(s),
-            speed: speed,
-            edge: edge,
+            speed,
+            edge,
         },
     }
 }
 
 // max(0, q − u) without a branch: the difference times 1 where it is above 0, and times 0 where it is not. (docs/LESSON-LARGER.md)
 pub fn positive_difference(q: i64, u: i64) -> u64
-    requires q_bound { nat_abs q ≤ max_operand }
-    requires u_bound { nat_abs u ≤ max_operand }
+    requires q_in_range { nat_abs q ≤ max_operand }
+    requires u_in_range { nat_abs u ≤ max_operand }
     ensures { result ≡ max0 (q -ℤ u) }
 {
     ((q - u) * ((0 < q - u) as i64)) as u64
@@ -146,16 +142,14 @@ fn missing_speed(rule: AdviceRule) -> u64
     requires { RuleSizes rule }
     ensures { result ≡ missing rule }
 {
-    let target = rule.target;
-    let speed = rule.speed;
-    positive_difference(target, speed)
+    positive_difference(rule.target, rule.speed)
 }
 
 // While the speed still changes: a·n is below G·m then, which keeps a·n² small. (The instants of both sides are in the upper one's reach.)
 fn arc_not_beyond(side: Side, rule: AdviceRule, n: u64, m: u64) -> bool
     requires rule_sizes { RuleSizes rule }
     requires in_reach { InReach Upper n m }
-    requires n_bound { rule.strength * n * n ≤ most_bend }
+    requires before_straight { rule.strength * n * n ≤ most_bend }
     ensures { result ≡ arc_not_beyond side rule n m }
 {
     let a = rule.strength;
@@ -176,7 +170,7 @@ fn arc_not_beyond(side: Side, rule: AdviceRule, n: u64, m: u64) -> bool
 fn straight_not_beyond(side: Side, rule: AdviceRule, gap: u64, n: u64, m: u64) -> bool
     requires rule_sizes { RuleSizes rule }
     requires in_reach { InReach Upper n m }
-    requires gap_value { gap ≡ missing rule }
+    requires gap_missing { gap ≡ missing rule }
     ensures { result ≡ straight_not_beyond side rule n m }
 {
     let a = rule.strength;
@@ -197,68 +191,26 @@ fn straight_not_beyond(side: Side, rule: AdviceRule, gap: u64, n: u64, m: u64) -
 // The rule n/m after it begins.
 fn rule_not_beyond(side: Side, rule: AdviceRule, n: u64, m: u64) -> bool
     requires rule_sizes { RuleSizes rule }
-    requires rule_bound { missing rule ≤ most_missing side }
+    requires missing_within { missing rule ≤ most_missing side }
     requires in_reach { InReach side n m }
     ensures { result ≡ rule_not_beyond side rule n m }
 {
     let gap = missing_speed(rule);
-    let a = rule.strength;
-    if a * n < gap * m {
+    if rule.strength * n < gap * m {
         return arc_not_beyond(side, rule, n, m);
     }
     straight_not_beyond(side, rule, gap, n, m)
 }
 
-// f against w·h + k: up to d the delay, then the rule.
-fn lower_not_beyond(s: SensedQuestion, n: u64, m: u64) -> bool
-    requires sizes { Sizes s }
-    requires in_reach { InReach Lower n m }
-    ensures { result ≡ not_beyond Lower s n m }
-{
-    let d = s.delay;
-    let end = d * m;
-    if n <= end {
-        return delay_not_beyond(Side::Lower, s, n, m);
-    }
-    let rule = advice_rule(Side::Lower, s);
-    rule_not_beyond(Side::Lower, rule, n - end, m)
-}
-
-// j against w·h − k, likewise.
-fn upper_not_beyond(s: SensedQuestion, n: u64, m: u64) -> bool
-    requires sized { Sized Upper s }
-    requires in_reach { InReach Upper n m }
-    ensures { result ≡ not_beyond Upper s n m }
-{
-    let d = s.delay;
-    let end = d * m;
-    if n <= end {
-        return delay_not_beyond(Side::Upper, s, n, m);
-    }
-    let rule = advice_rule(Side::Upper, s);
-    rule_not_beyond(Side::Upper, rule, n - end, m)
-}
-
-// Is a side's path "not strictly beyond" the puck's edge at n/m?
+// Is a side's path "not strictly beyond" the puck's edge at n/m? Up to d the delay says, then the rule.
 pub fn not_beyond(side: Side, s: SensedQuestion, n: u64, m: u64) -> bool
     requires sized { Sized side s }
     requires in_reach { InReach side n m }
     ensures { result ≡ not_beyond side s n m }
 {
-    match side {
-        Side::Lower => lower_not_beyond(s, n, m),
-        Side::Upper => upper_not_beyond(s, n, m),
+    let end = s.delay * m;
+    if n <= end {
+        return delay_not_beyond(side, s, n, m);
     }
-}
-
-// The same at a whole second. A search has a function of its own to ask, which the compiler repeats in its loop.
-pub fn second_not_beyond(side: Side, s: SensedQuestion, n: u64) -> bool
-    requires sized { Sized side s }
-    requires in_reach { InReach side n 1 }
-    ensures { result ≡ not_beyond side s n 1 }
-{
-    match side {
-        Side::Lower => lower_not_beyond(s, n, 1),
-        Side::Upper => upper_not_beyond(s, n, 1),
-    }
+    rule_not_beyond(side, advice_rule(side, s), n - end, m)
 }

@@ -7,7 +7,7 @@ ghost use Rattle.instant.specs.Order.{no_later, earlier};
 ghost use Rattle.instant.specs.inner.Sizes.{SizedInstant};
 ghost use Rattle.instant.specs.Lowest.{gcd, lowest};
 
-// The rational time n/m, in seconds; a time has m ≥ 1.
+// The rational time n/m, in seconds; a time has m ≥ 1. (No Ord: where m is 0 its laws fail, as 0/0 would equal every time; and no Eq: 1/2 and 2/4 are one time.)
 #[derive(Clone, Copy)]
 pub struct Instant {
     pub n: u64,
@@ -38,21 +38,8 @@ pub fn earlier(a: Instant, b: Instant) -> Instant
     if no_later(a, b) { a } else { b }
 }
 
-// The greatest common divisor, by Euclid's algorithm.
-fn gcd(a: u64, b: u64) -> u64
-    ensures { result ≡ gcd a b }
-{
-    let mut x = a;
-    let mut y = b;
-    while y != 0 {
-        let rest = x % y;
-        x = y;
-        y = rest;
-    }
-    x
-}
-
-// The same in 32 bits, where a division costs half as much. A division by 1, most often the last step, is left out.
+// The greatest common divisor, by Euclid's algorithm in 32 bits, where a division costs half as much. A division by 1, most often the last step, is left out.
+#[tactic(auto, using(crate::proofs::Euclid::gcd_step))]
 fn short_gcd(a: u32, b: u32) -> u32
     ensures { result ≡ gcd a b }
 {
@@ -63,19 +50,18 @@ fn short_gcd(a: u32, b: u32) -> u32
         x = y;
         y = rest;
     }
-    if y == 1 {
-        return 1;
-    }
-    x
+    if y == 1 { 1 } else { x }
 }
 
-// In 32 bits where both numbers have no more.
+// By steps in 64 bits until both numbers have no more than 32.
+#[tactic(auto, using(crate::proofs::Euclid::gcd_step))]
 fn common_divisor(a: u64, b: u64) -> u64
     ensures { result ≡ gcd a b }
 {
     match (u32::try_from(a), u32::try_from(b)) {
         (Ok(short_a), Ok(short_b)) => u64::from(short_gcd(short_a, short_b)),
-        _ => gcd(a, b),
+        _ if b == 0 => a,
+        _ => common_divisor(b, a % b),
     }
 }
 

@@ -5,7 +5,7 @@ ghost use Rattle.std.specs.Prelude.{◌≡◌};
 ghost use Rattle.judge.specs.Answers.{answer, sides_number, answer_record};
 
 use question::{Encounter, Question, Refusal, Settings};
-use refusals::check_question;
+use refusals::accept;
 use verdict::{ClearSides, Verdict, verdict_on};
 
 // "1 lower side clear, 2 upper, 3 both"
@@ -28,6 +28,6 @@ pub fn judge(
 ) -> Result<Verdict, Refusal>
     ensures { result ≡ answer encounter settings question }
 {
-    check_question(encounter, settings, question)?;
-    Ok(verdict_on(encounter, settings, question))
+    let asked = accept(encounter, settings, question)?;
+    Ok(verdict_on(asked))
 }

@@ -50,7 +50,7 @@ pub fn delay_piece(s: SensedQuestion) -> WholePiece
     let e = s.delay_acceleration as i64;
     WholePiece {
         from: Instant { n: 0, m: 1 },
-        square: 0 - a * e,
+        square: -(a * e),
         linear: 2 * a * u,
         constant: 0,
     }

@@ -21,7 +21,7 @@ read_of input = take read_room input
 -- the answer records, or the refusal's record
 abbrev pub written_for : Result ℕ Refusal → List ℕ → List ℕ
 written_for (Ok length) answer = answer
-written_for (Err number) answer = record_bytes (outcome_record (Err number))
+written_for (Err why) answer = record_bytes (outcome_record (Err why))
 
 -- what the program writes for what it read
 unfoldable pub program_output : List ℕ → List ℕ

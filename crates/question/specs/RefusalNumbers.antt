@@ -1,5 +1,5 @@
 -- The number of each refusal, as answers carry it: "Who can cause a refusal" of document 01, and document 02.
-use Rattle.std.specs.Prelude.{ℕ}
+use Rattle.std.specs.Prelude.{ℕ, Result, Ok, Err}
 use Rattle.advisory.specs.declared.CodeError.{CodeError}
 use Rattle.question.specs.declared.refusal.Refusal.{Refusal}
 
@@ -27,3 +27,8 @@ refusal_number Refusal.FlightOutside = 18
 abbrev pub code_refusal : CodeError → Refusal
 code_refusal CodeError.NotJudged = Refusal.CodeNotJudged
 code_refusal CodeError.Unknown = Refusal.CodeUnknown
+
+-- an answer with the refusal's number in its place
+abbrev pub with_number : {A : Type 0} → Result A Refusal → Result A ℕ
+with_number (Ok x) = Ok x
+with_number (Err why) = Err (refusal_number why)

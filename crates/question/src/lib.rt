@@ -11,8 +11,10 @@ use limits::{
     MAX_RADIUS, MAX_SPEED, MIN_DISTANCE, MIN_HALF_HEIGHT, MIN_HEIGHT, MIN_SPEED, within,
 };
 
+pub mod accepted;
 pub mod refusal;
 
+pub use accepted::AcceptedQuestion;
 pub use refusal::Refusal;
 
 // The intruder seen from the ownship: r, h, c, v, vi.
@@ -92,7 +94,8 @@ pub fn delay_acceleration_within(settings: Settings) -> bool
 pub fn sides_known(question: Question) -> bool
     ensures { result ≡ sides_known question }
 {
-    ((question.sides == 1) | (question.sides == 2)) & ((question.sense == 0) | (question.sense == 1))
+    ((question.sides == 1) | (question.sides == 2))
+        & ((question.sense == 0) | (question.sense == 1))
 }
 
 pub fn two_sided(question: Question) -> bool

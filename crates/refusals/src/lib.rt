@@ -1,17 +1,18 @@
 // Refusals 1 to 6 and 14 to 16: what a question must meet besides the fields' limits, and the tests in their order. The conditions are `question`'s specs/Refusals.antt.
 #![tactic(auto)]
 
-ghost use Rattle.std.specs.Prelude.{◌≡◌, ◌&&◌};
+ghost use Rattle.std.specs.Prelude.{◌≡◌, IfOk, IfErr, Err, ◌&&◌};
 ghost use Rattle.std.specs.Int.Signed.{le_z};
 ghost use Rattle.limits.specs.Limits.{strength_within, delay_within};
 ghost use Rattle.question.specs.Refusals.{targets_within, strengths_ordered, strengths_within, targets_ordered, upper_target_in_sense, upper_zero, upper_unused, limit_allowed, times_within, question_checks, first_refusal, refusal};
 
 use advisory::Sense;
-use limits::{MAX_DELAY, MAX_LIMIT, MAX_SPEED, MAX_STRENGTH, MIN_SPEED, MIN_STRENGTH, NO_LIMIT, within,
+use limits::{
+    MAX_DELAY, MAX_LIMIT, MAX_SPEED, MAX_STRENGTH, MIN_SPEED, MIN_STRENGTH, NO_LIMIT, within,
 };
 use question::{
-    Encounter, Question, Refusal, Settings, delay_acceleration_within, encounter_within,
-    puck_within, sense_of, sides_known, two_sided,
+    AcceptedQuestion, Encounter, Question, Refusal, Settings, delay_acceleration_within,
+    encounter_within, puck_within, sense_of, sides_known, two_sided,
 };
 
 // Refusal 5.
@@ -102,7 +103,11 @@ fn check_fields(question: Question) -> Result<(), Refusal>
 
 // The refusals of plain numbers: 1, 2, 3, then the question's own.
 #[tactic(auto, unfolding(question::specs::Refusals::refusal))]
-pub fn check_question(encounter: Encounter, settings: Settings, question: Question) -> Result<(), Refusal>
+pub fn check_question(
+    encounter: Encounter,
+    settings: Settings,
+    question: Question,
+) -> Result<(), Refusal>
     ensures { result ≡ refusal encounter settings question }
 {
     if !encounter_within(encounter) {
@@ -115,4 +120,21 @@ pub fn check_question(encounter: Encounter, settings: Settings, question: Questi
         return Err(Refusal::DelayAccelerationOutside);
     }
     check_fields(question)
+}
+
+// A question that no test refuses, as one.
+pub fn accept(
+    encounter: Encounter,
+    settings: Settings,
+    question: Question,
+) -> Result<AcceptedQuestion, Refusal>
+    ensures same { IfOk result (λ asked. (asked.encounter ≡ encounter) × (asked.settings ≡ settings) × (asked.question ≡ question)) }
+    ensures refused { IfErr result (λ why. refusal encounter settings question ≡ Err why) }
+{
+    check_question(encounter, settings, question)?;
+    Ok(AcceptedQuestion {
+        encounter,
+        settings,
+        question,
+    })
 }

@@ -26,9 +26,10 @@ use Rattle.pieces.specs.inner.PieceSizes.{most_square, most_linear, most_constan
 use Rattle.pieces.proofs.Fields.{delay_sizes, arc_sizes, last_sizes, piece_at_sizes}
 use Rattle.pieces.proofs.PathPieces.{held_follows, right_pieces}
 use Rattle.screen.specs.declared.Piece.{Piece}
+use Rattle.screen.specs.declared.DrawnPiece.{DrawnPiece}
 use Rattle.screen.specs.declared.Drawing.{Drawing}
 use Rattle.screen.specs.Floats.{float, Exactly}
-use Rattle.screen.specs.Drawings.{float_piece, drawn_pieces, Content, refused, drawn, content, checked_content, screen_drawing}
+use Rattle.screen.specs.Drawings.{float_piece, drawn_pieces, pieces_of, content, checked_content, screen_drawing}
 use Rattle.screen.specs.Points.{drawn_height, point_at, point_refusal, checked_point, screen_point}
 use Rattle.screen.specs.RightScreen.{IsStraight, ExactPiece, AllExact, RightDrawing, RightContent, ExactOnTheWay, RightPoint, RightPointAnswer}
 use Rattle.screen.proofs.WholeFloats.{float_exact}
@@ -131,23 +132,33 @@ module _ (s : SensedQuestion) (z : Sizes s) where
       way = exact_on_the_way (piece_at s (t ÷ 1)) (piece_at_sizes s z (t ÷ 1)) t h;
     }
 
--- ---- a drawing's content determines it
-drawing_of : Content → Drawing
-drawing_of (refused n) = Drawing.Refused n
-drawing_of (drawn []) = Drawing.Refused 0
-drawing_of (drawn (p ∷ [])) = Drawing.One p
-drawing_of (drawn (p ∷ q ∷ [])) = Drawing.Two p q
-drawing_of (drawn (p ∷ q ∷ r ∷ l)) = Drawing.Three p q r
+-- ---- an answer's content determines it
+drawing_of : List DrawnPiece → DrawnPiece → Drawing
+drawing_of [] other = Drawing.One other
+drawing_of (p ∷ []) other = Drawing.One p
+drawing_of (p ∷ q ∷ []) other = Drawing.Two p q
+drawing_of (p ∷ q ∷ r ∷ l) other = Drawing.Three p q r
 
-back : (r : Drawing) → drawing_of (content r) ≡ r
+-- any piece, for a list that is no drawing's
+first_piece : Drawing → DrawnPiece
+first_piece (Drawing.One p) = p
+first_piece (Drawing.Two p q) = p
+first_piece (Drawing.Three p q r) = p
+
+back : (d : Drawing) (other : DrawnPiece) → drawing_of (pieces_of d) other ≡ d
 unfolding drawing_of
-back (Drawing.Refused n) = refl
-back (Drawing.One p) = refl
-back (Drawing.Two p q) = refl
-back (Drawing.Three p q r) = refl
+back (Drawing.One p) other = refl
+back (Drawing.Two p q) other = refl
+back (Drawing.Three p q r) other = refl
 
-pub content_determines : (r r' : Drawing) → content r ≡ content r' → r ≡ r'
-content_determines r r' e = sym (back r) ∙ ap drawing_of e ∙ back r'
+pieces_determine : (v w : Drawing) → pieces_of v ≡ pieces_of w → v ≡ w
+pieces_determine v w e = let other = first_piece v in sym (back v other) ∙ ap (λ (l : List DrawnPiece). drawing_of l other) e ∙ back w other
+
+pub content_determines : (r r' : Result Drawing Refusal) → content r ≡ content r' → r ≡ r'
+content_determines (Ok v) (Ok w) e = ap {B = Result Drawing Refusal} Ok (pieces_determine v w cc)
+content_determines (Ok v) (Err why) e = absurd (let z : ◌≡◌ {A = ℕ} 0 1 = cc in omega arith)
+content_determines (Err why) (Ok v) e = absurd (let z : ◌≡◌ {A = ℕ} 0 1 = cc in omega arith)
+content_determines (Err why) (Err why') e = cc
 
 -- ---- the entries: each accepted question is drawn, and each second of it up to 600
 module _ (x : Encounter) (y : Settings) (z : Question) where
@@ -156,7 +167,7 @@ module _ (x : Encounter) (y : Settings) (z : Question) where
   accepted_drawing e =
       subst (λ (k : Result ⊤ Refusal). RightContent (sensed_question x y z) (checked_content k (drawn_pieces (sensed_question x y z)))) (sym e) (right_drawing (sensed_question x y z) (accepted_sizes x y z e))
 
-  pub refused_drawing : (n : ℕ) → refusal x y z ≡ Err n → screen_drawing x y z ≡ refused n
+  pub refused_drawing : (n : Refusal) → refusal x y z ≡ Err n → screen_drawing x y z ≡ Err n
   unfolding screen_drawing
   refused_drawing n e = ap (λ (k : Result ⊤ Refusal). checked_content k (drawn_pieces (sensed_question x y z))) e
 
@@ -174,5 +185,5 @@ module _ (x : Encounter) (y : Settings) (z : Question) where
     pub second_above : refusal x y z ≡ Ok tt → last_second < t → screen_point x y z t ≡ Err Refusal.TimesOutside
     second_above e h = by_check (Err Refusal.TimesOutside) (late_second x y z t e h)
 
-    pub refused_second : (n : ℕ) → refusal x y z ≡ Err n → screen_point x y z t ≡ Err n
+    pub refused_second : (n : Refusal) → refusal x y z ≡ Err n → screen_point x y z t ≡ Err n
     refused_second n e = by_check (Err n) (refused_point x y z t n e)

@@ -1,5 +1,5 @@
 -- A point is accepted exactly if its question is and its second is at most 600, and else the question's refusal comes first. Assumes nothing.
-use Rattle.std.specs.Prelude.{Err, Ok}
+use Rattle.std.specs.Prelude.{Result, ⊤, Err, Ok}
 use mathlib.Core.Path.{◌≡◌, refl, ◌∙◌}
 use mathlib.Core.Bool.{Bool, true, false, cond}
 use mathlib.Core.List.{[], ◌∷◌}
@@ -23,7 +23,7 @@ module _ (x : Encounter) (y : Settings) (z : Question) (t : ℕ) where
   unfolding point_refusal refusal
   accepted_point e = let b = both_accept (plain_checks x y z) (check Refusal.TimesOutside (leb t last_second) ∷ []) e in (b.0, within (leb t last_second) refl b.1)
     where
-      within : (b : Bool) → leb t last_second ≡ b → cond b (Ok tt) (Err Refusal.TimesOutside) ≡ Ok tt → t ≤ last_second
+      within : (b : Bool) → leb t last_second ≡ b → ◌≡◌ {A = Result ⊤ Refusal} (cond b (Ok tt) (Err Refusal.TimesOutside)) (Ok tt) → t ≤ last_second
       within true e f = leb-true t last_second e
       within false e f = let z : ◌≡◌ {A = ℕ} 0 1 = cc in absurd (omega arith)
 
@@ -37,6 +37,6 @@ module _ (x : Encounter) (y : Settings) (z : Question) (t : ℕ) where
   late_second e h = accepted_first (plain_checks x y z) (check Refusal.TimesOutside (leb t last_second) ∷ []) e ∙ picks_no (leb t last_second) (Ok tt) (Err Refusal.TimesOutside) (lt-leb t last_second h)
 
   -- a refused question keeps its number, whatever the second
-  pub refused_point : (n : ℕ) → refusal x y z ≡ Err n → point_refusal x y z t ≡ Err n
+  pub refused_point : (n : Refusal) → refusal x y z ≡ Err n → point_refusal x y z t ≡ Err n
   unfolding point_refusal refusal
   refused_point n e = refused_first n (plain_checks x y z) (check Refusal.TimesOutside (leb t last_second) ∷ []) e

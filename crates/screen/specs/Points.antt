@@ -35,7 +35,7 @@ point_refusal x y z t = first_refusal (plain_checks x y z ++ (check Refusal.Time
 
 abbrev pub checked_point : Result ⊤ Refusal → ScreenPoint → Result ScreenPoint Refusal
 checked_point (Ok _) p = Ok p
-checked_point (Err n) p = Err n
+checked_point (Err why) p = Err why
 
 unfoldable pub screen_point : Encounter → Settings → Question → ℕ → Result ScreenPoint Refusal
 unfolding sensed_question point_at point_refusal

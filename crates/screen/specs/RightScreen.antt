@@ -13,7 +13,7 @@ use Rattle.screen.specs.declared.Piece.{Piece}
 use Rattle.screen.specs.declared.DrawnPiece.{DrawnPiece}
 use Rattle.screen.specs.declared.ScreenPoint.{ScreenPoint}
 use Rattle.screen.specs.Floats.{float, Exactly}
-use Rattle.screen.specs.Drawings.{float_piece, all_drawn, Content, refused, drawn}
+use Rattle.screen.specs.Drawings.{float_piece, all_drawn}
 use Rattle.question.specs.declared.refusal.Refusal.{Refusal}
 
 -- "a piece is a straight exactly if its t² has coefficient 0"
@@ -39,9 +39,9 @@ pub record RightDrawing (s : SensedQuestion) (l : List DrawnPiece) : Type 0 wher
   pub right : RightPieces s whole
   pub exact : AllExact whole
 
-abbrev pub RightContent : SensedQuestion → Content → Type 0
-RightContent s (drawn l) = RightDrawing s l
-RightContent s (refused n) = ⊥
+abbrev pub RightContent : SensedQuestion → (Result (List DrawnPiece) Refusal) → Type 0
+RightContent s (Ok l) = RightDrawing s l
+RightContent s (Err n) = ⊥
 
 -- "every operation on the way is exact": each product and each sum of a piece at the second t
 abbrev pub ExactOnTheWay : WholePiece → Piece → ℤ → Float → Type 0

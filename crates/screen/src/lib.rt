@@ -1,18 +1,18 @@
 // The path on the screen: the pieces of the lower path with 64-bit floats, and the point of each whole second. `specs/` says what they are.
 #![tactic(auto)]
 
-ghost use Rattle.std.specs.Prelude.{◌≡◌, ◌≤◌};
+ghost use Rattle.std.specs.Prelude.{◌≡◌, ◌≤◌, IfOk, IfErr, Err};
 ghost use Rattle.path.specs.inner.Sizes.{Sizes};
 ghost use Rattle.pieces.specs.Pieces.{last_second};
 ghost use Rattle.pieces.specs.inner.PieceSizes.{PieceSizes};
-ghost use Rattle.screen.specs.Drawings.{float_piece, drawn_piece, content, drawn, drawn_pieces, screen_drawing};
+ghost use Rattle.screen.specs.Drawings.{float_piece, drawn_piece, pieces_of, content, drawn_pieces, screen_drawing};
 ghost use Rattle.screen.specs.Points.{evaluated, point_at, point_refusal, screen_point};
 
 use instant::{Time, lowest_terms};
 use path::SensedQuestion;
 use pieces::{WholePiece, arc_piece, delay_piece, last_piece, missing_speed, piece_at};
-use question::{Checked, Encounter, Question, Settings};
-use refusals::check_question;
+use question::{AcceptedQuestion, Encounter, Question, Refusal, Settings};
+use refusals::accept;
 use sensed::sensed_question;
 
 // The last second that is drawn.
@@ -32,10 +32,9 @@ pub struct DrawnPiece {
     pub piece: Piece,
 }
 
-// One to three pieces in time's order, or the refusal's number.
+// One to three pieces in time's order.
 #[derive(Clone, Copy)]
 pub enum Drawing {
-    Refused(u8),
     One(DrawnPiece),
     Two(DrawnPiece, DrawnPiece),
     Three(DrawnPiece, DrawnPiece, DrawnPiece),
@@ -45,12 +44,6 @@ pub enum Drawing {
 pub struct ScreenPoint {
     pub time: f64,
     pub height: f64,
-}
-
-#[derive(Clone, Copy)]
-pub enum PointAnswer {
-    Refused(u8),
-    Drawn(ScreenPoint),
 }
 
 // Every whole number of a piece is below 2⁵³, so its cast is exact.
@@ -80,7 +73,7 @@ fn drawn_piece(p: WholePiece) -> DrawnPiece
 // The pieces that have a length.
 fn drawing_of(s: SensedQuestion) -> Drawing
     requires { Sizes s }
-    ensures { content result ≡ drawn (drawn_pieces s) }
+    ensures { pieces_of result ≡ drawn_pieces s }
 {
     let last = drawn_piece(last_piece(s));
     if missing_speed(s) == 0 {
@@ -97,13 +90,16 @@ fn drawing_of(s: SensedQuestion) -> Drawing
 }
 
 // The entry for a drawing: any 64-bit values.
-pub fn screen_drawing(encounter: Encounter, settings: Settings, question: Question) -> Drawing
+#[tactic(auto, using(sensed::proofs::AcceptedSizes::accepted_sizes), unfolding(crate::specs::Drawings::screen_drawing))]
+pub fn screen_drawing(
+    encounter: Encounter,
+    settings: Settings,
+    question: Question,
+) -> Result<Drawing, Refusal>
     ensures { content result ≡ screen_drawing encounter settings question }
 {
-    match check_question(encounter, settings, question) {
-        Ok(()) => drawing_of(sensed_question(encounter, settings, question)),
-        Err(number) => Drawing::Refused(number),
-    }
+    let asked = accept(encounter, settings, question)?;
+    Ok(drawing_of(sensed_question(asked)))
 }
 
 // The constant coefficient is added last: it is +0 where it is 0, so no −0 comes out.
@@ -130,22 +126,26 @@ fn point_at(s: SensedQuestion, second: u64) -> ScreenPoint
 }
 
 // A second above 600 gets 6, after the refusals of the entry for plain numbers.
-fn check_point(encounter: Encounter, settings: Settings, question: Question, second: u64) -> Result<(), Refusal>
-    ensures { result ≡ point_refusal encounter settings question second }
+#[tactic(auto, using(crate::proofs::PointChecks::in_time_lem, crate::proofs::PointChecks::late_second, crate::proofs::PointChecks::refused_point))]
+fn accept_second(
+    encounter: Encounter,
+    settings: Settings,
+    question: Question,
+    second: u64,
+) -> Result<AcceptedQuestion, Refusal>
+    ensures in_time { IfOk result (λ asked. second ≤ last_second) }
+    ensures same { IfOk result (λ asked. (asked.encounter ≡ encounter) × (asked.settings ≡ settings) × (asked.question ≡ question)) }
+    ensures refused { IfErr result (λ why. point_refusal encounter settings question second ≡ Err why) }
 {
-    match check_question(encounter, settings, question) {
-        Ok(()) => {
-            if second <= LAST_SECOND {
-                Ok(())
-            } else {
-                Err(Refusal::TimesOutside)
-            }
-        }
-        Err(number) => Err(number),
+    let asked = accept(encounter, settings, question)?;
+    if LAST_SECOND < second {
+        return Err(Refusal::TimesOutside);
     }
+    Ok(asked)
 }
 
 // The entry for a screen point: any 64-bit values.
+#[tactic(auto, using(sensed::proofs::AcceptedSizes::accepted_sizes, crate::proofs::PointChecks::in_time_lem), unfolding(crate::specs::Points::screen_point))]
 pub fn screen_point(
     encounter: Encounter,
     settings: Settings,
@@ -154,11 +154,6 @@ pub fn screen_point(
 ) -> Result<ScreenPoint, Refusal>
     ensures { result ≡ screen_point encounter settings question second }
 {
-    match check_point(encounter, settings, question, second) {
-        Ok(()) => {
-            let s = sensed_question(encounter, settings, question);
-            Ok(point_at(s, second))
-        }
-        Err(number) => Err(number),
-    }
+    let asked = accept_second(encounter, settings, question, second)?;
+    Ok(point_at(sensed_question(asked), second))
 }

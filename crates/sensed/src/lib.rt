@@ -1,15 +1,14 @@
 // An accepted question in its sense. `specs/` says what that is.
 #![tactic(auto)]
 
-ghost use Rattle.std.specs.Prelude.{◌≡◌, Ok};
+ghost use Rattle.std.specs.Prelude.{◌≡◌};
 ghost use Rattle.advisory.specs.Sign.{sign};
-ghost use Rattle.question.specs.Refusals.{refusal};
 ghost use Rattle.sensed.specs.Sensed.{limit_of, sensed_motion, sensed_question};
 
 use advisory::Sense;
 use limits::NO_LIMIT;
 use path::SensedQuestion;
-use question::{Encounter, Question, Settings, sense_of};
+use question::{AcceptedQuestion, sense_of};
 use window::positive_part;
 
 // The intruder's sensed height w × h, and the sensed speeds u, q and that of the upper target.
@@ -40,35 +39,30 @@ fn limit_of(limit: i64) -> Option<u64>
     Some(positive_part(limit))
 }
 
-// The intruder's height and the speeds of an accepted question, in the sense and relative to the intruder's speed.
-fn sensed_motion(encounter: Encounter, settings: Settings, question: Question) -> Motion
-    requires { refusal encounter settings question ≡ Ok tt }
-    ensures { result ≡ sensed_motion encounter question }
+// The intruder's height and the speeds, in the sense and relative to the intruder's speed.
+fn sensed_motion(asked: AcceptedQuestion) -> Motion
+    ensures { result ≡ sensed_motion asked.encounter asked.question }
 {
-    let height = encounter.height;
-    let own = encounter.speed;
+    let encounter = asked.encounter;
+    let question = asked.question;
     let intruder = encounter.intruder_speed;
-    let target = question.target;
-    let upper = question.upper_target;
     let w = sign_of(sense_of(question));
     Motion {
-        level: w * height,
-        speed: w * (own - intruder),
-        target: w * (target - intruder),
-        upper_target: w * (upper - intruder),
+        level: w * encounter.height,
+        speed: w * (encounter.speed - intruder),
+        target: w * (question.target - intruder),
+        upper_target: w * (question.upper_target - intruder),
     }
 }
 
 // An accepted question, with heights and speeds in its sense.
-pub fn sensed_question(
-    encounter: Encounter,
-    settings: Settings,
-    question: Question,
-) -> SensedQuestion
-    requires { refusal encounter settings question ≡ Ok tt }
-    ensures { result ≡ sensed_question encounter settings question }
+pub fn sensed_question(asked: AcceptedQuestion) -> SensedQuestion
+    ensures { result ≡ sensed_question asked.encounter asked.settings asked.question }
 {
-    let motion = sensed_motion(encounter, settings, question);
+    let motion = sensed_motion(asked);
+    let encounter = asked.encounter;
+    let settings = asked.settings;
+    let question = asked.question;
     SensedQuestion {
         distance: encounter.distance,
         closing_speed: positive_part(encounter.closing_speed),

@@ -1,8 +1,8 @@
 -- How long an answer can be: a reply has at most 13 bytes for 4 of its record, so the answer of an accepted sheet has at most 26,624. Assumes nothing.
-use Rattle.std.specs.Prelude.{Err, None, Ok, Option, Result, Some, ⊤}
+use Rattle.std.specs.Prelude.{Err, None, Ok, Option, Result, Some, ⊤, is_some}
 use mathlib.Core.Path.{◌≡◌, refl}
 use mathlib.Core.Bool.{Bool, true, false, cond}
-use mathlib.Core.List.{List, [], ◌∷◌, ◌++◌}
+use mathlib.Core.List.{List, [], ◌∷◌}
 use Prim.Native.Nat.{ℕ, zero, suc, ◌+◌, ◌*◌, ◌≤◌}
 use native.Mathlib.Omega.{arith}
 use lib.IntN.{ℤ, pos}
@@ -21,11 +21,11 @@ use Rattle.judge.specs.Answers.{checked_answer, answer}
 use Rattle.judge.specs.Demand3.{RightOneSided}
 use Rattle.judge.proofs.Demand3.{one_sided_lem}
 use Rattle.record.specs.declared.Kind.{Kind}
-use Rattle.record.specs.Kinds.{kind_of, body_length, known}
+use Rattle.record.specs.Kinds.{kind_of, body_length, body_after}
 use Rattle.record.specs.Numbers.{byte_at, short_at, number_at}
-use Rattle.record.specs.Records.{encounter_in, question_in, record_of, records_after}
+use Rattle.record.specs.Records.{encounter_in, question_in, record_of, record_before, records_after}
 use Rattle.record.specs.SheetCheck.{fault_after, sheet_check}
-use Rattle.record.proofs.Scan.{not_refused, accepted_sheet}
+use Rattle.record.proofs.Scan.{accepted_sheet}
 use Rattle.reply.specs.AnswerBytes.{reply_bytes}
 use Rattle.answering.specs.declared.State.{State}
 use Rattle.answering.specs.States.{starting_state, with_puck, with_delay_acceleration, state_after}
@@ -74,33 +74,32 @@ unfolding coded_answer coded_question
 coded_size None y code limit = omega arith
 coded_size (Some x) y code limit = asked_size x y code (advised_of code) x.speed limit
 
-settings_size : (b : Bool) (n : ℕ) → length (reply_bytes (settings_reply b n)) ≤ 2
+settings_size : (b : Bool) (n : Refusal) → length (reply_bytes (settings_reply b n)) ≤ 2
 settings_size true n = omega arith
 settings_size false n = omega arith
 
 -- ---- a record's reply, and the bytes of the record
 reply_size : (st : State) (kind : Kind) (body : List ℕ) → 4 * length (reply_bytes (reply_to st (record_of kind body))) ≤ 13 + 13 * body_length kind
 unfolding reply_to
-reply_size st Kind.Encounter body = omega (arith, settings_size (encounter_within (encounter_in body)) 1)
-reply_size st Kind.Puck body = omega (arith, settings_size (puck_within (with_puck st.settings (number_at body 0) (number_at body 4))) 2)
-reply_size st Kind.DelayAcceleration body = omega (arith, settings_size (delay_acceleration_within (with_delay_acceleration st.settings (number_at body 0))) 3)
+reply_size st Kind.Encounter body = omega (arith, settings_size (encounter_within (encounter_in body)) Refusal.EncounterOutside)
+reply_size st Kind.Puck body = omega (arith, settings_size (puck_within (with_puck st.settings (number_at body 0) (number_at body 4))) Refusal.PuckOutside)
+reply_size st Kind.DelayAcceleration body = omega (arith, settings_size (delay_acceleration_within (with_delay_acceleration st.settings (number_at body 0))) Refusal.DelayAccelerationOutside)
 reply_size st Kind.Coded body = omega (arith, coded_size st.encounter st.settings (byte_at body 0) (pos (short_at body 1)))
 reply_size st Kind.Free body = omega (arith, answer_size (free_answer st.encounter st.settings (question_in body)))
-reply_size st Kind.Unknown body = omega arith
 
 -- ---- all the records after `passed` bytes of a body
 answers_size : (st : State) (passed : ℕ) (l : List ℕ) → fault_after passed l ≡ Ok tt → 4 * length (answers_from st (records_after passed l)) + 13 * passed ≤ 13 * length l
 unfolding fault_after records_after answers_from
 answers_size st zero [] e = omega arith
-answers_size st (suc n) [] e = not_refused e
+answers_size st (suc n) [] e = absurd (cc)
 answers_size st (suc n) (b ∷ l) e = omega (arith, answers_size st n l e)
-answers_size st zero (b ∷ l) e = go (known (kind_of b)) (answers_size (state_after st (record_of (kind_of b) l)) (body_length (kind_of b)) l) e
+answers_size st zero (b ∷ l) e = go (kind_of b) (λ st' n. answers_size st' n l) e
   where
-    go : (k : Bool) → (fault_after (body_length (kind_of b)) l ≡ Ok tt → 4 * length (answers_from (state_after st (record_of (kind_of b) l)) (records_after (body_length (kind_of b)) l)) + 13 * body_length (kind_of b) ≤ 13 * length l)
-        → cond k (fault_after (body_length (kind_of b)) l) (Err Refusal.KindUnknown) ≡ Ok tt
-        → 4 * length (reply_bytes (reply_to st (record_of (kind_of b) l)) ++ answers_from (state_after st (record_of (kind_of b) l)) (records_after (body_length (kind_of b)) l)) + 13 * 0 ≤ 13 * suc (length l)
-    go false f h = not_refused h
-    go true f h = simp length-append (omega (arith, reply_size st (kind_of b) l, f h))
+    go : (k : Option Kind) → ((st' : State) (n : ℕ) → fault_after n l ≡ Ok tt → 4 * length (answers_from st' (records_after n l)) + 13 * n ≤ 13 * length l)
+        → cond (is_some k) (fault_after (body_after k) l) (Err Refusal.KindUnknown) ≡ Ok tt
+        → 4 * length (answers_from st (record_before k l (records_after (body_after k) l))) + 13 * 0 ≤ 13 * suc (length l)
+    go None f h = absurd (cc)
+    go (Some kind) f h = simp length-append (omega (arith, reply_size st kind l, f (state_after st (record_of kind l)) (body_length kind) h))
 
 -- the answer of an accepted sheet is shorter than the program's area of 65,536 bytes
 pub sheet_answer_short : (s : List ℕ) → sheet_check s ≡ Ok tt → length (sheet_answer s) ≤ 26624

@@ -16,11 +16,11 @@ use Rattle.sheet.proofs.AnswerBound.{sheet_answer_short}
 use Rattle.question.specs.declared.refusal.Refusal.{Refusal}
 
 -- ---- a refused sheet: the same number for every area, and no byte changed
-pub refused_in_any_area : (s : List ℕ) (n : ℕ) → sheet_check s ≡ Err n → (room : ℕ) → outcome s room ≡ Err n
-refused_in_any_area s n e room = ap (λ (c : Result ⊤ Refusal). outcome_for c (length (sheet_answer s)) room) e
+pub refused_in_any_area : (s : List ℕ) (why : Refusal) → sheet_check s ≡ Err why → (room : ℕ) → outcome s room ≡ Err why
+refused_in_any_area s why e room = ap (λ (c : Result ⊤ Refusal). outcome_for c (length (sheet_answer s)) room) e
 
-pub refused_unchanged : (s area : List ℕ) (n : ℕ) → outcome s (length area) ≡ Err n → area_after s area ≡ area
-refused_unchanged s area n e = ap (λ (o : Result ℕ Refusal). area_for o (sheet_answer s) area) e
+pub refused_unchanged : (s area : List ℕ) (why : Refusal) → outcome s (length area) ≡ Err why → area_after s area ≡ area
+refused_unchanged s area why e = ap (λ (o : Result ℕ Refusal). area_for o (sheet_answer s) area) e
 
 -- ---- 13 by the answer's length alone
 module _ (s : List ℕ) (room : ℕ) (accepted : sheet_check s ≡ Ok tt) where

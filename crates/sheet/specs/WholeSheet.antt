@@ -8,6 +8,7 @@ use Rattle.reply.specs.AnswerBytes.{reply_bytes}
 use Rattle.answering.specs.declared.State.{State}
 use Rattle.answering.specs.States.{starting_state, state_after}
 use Rattle.answering.specs.Replies.{reply_to}
+use Rattle.question.specs.RefusalNumbers.{refusal_number}
 use Rattle.question.specs.declared.refusal.Refusal.{Refusal}
 
 -- the answer to records in order, each in the state that those before it left
@@ -21,7 +22,7 @@ sheet_answer sheet = answers_from starting_state (records sheet)
 
 -- "13, the answer area is shorter than the whole answer, tested after 10 to 12"
 abbrev pub outcome_for : Result ⊤ Refusal → ℕ → ℕ → Result ℕ Refusal
-outcome_for (Err number) needed room = Err number
+outcome_for (Err why) needed room = Err why
 outcome_for (Ok _) needed room = cond (leb needed room) (Ok needed) (Err Refusal.AreaTooShort)
 
 -- the outcome for a sheet and an area of `room` bytes
@@ -30,7 +31,7 @@ outcome sheet room = outcome_for (sheet_check sheet) (length (sheet_answer sheet
 
 -- refused: "no byte changed"; else the answer, and "Bytes past the answer keep their values."
 abbrev pub area_for : Result ℕ Refusal → List ℕ → List ℕ → List ℕ
-area_for (Err number) answer area = area
+area_for (Err why) answer area = area
 area_for (Ok written) answer area = answer ++ drop written area
 
 -- the whole area afterwards, for every sheet and every area
@@ -40,4 +41,4 @@ area_after sheet area = area_for (outcome sheet (length area)) (sheet_answer she
 -- The number and values of each outcome: "for a refused sheet it writes kind 69 and the number"; an accepted sheet has no record of its own (0), and its answer's length.
 abbrev pub outcome_record : Result ℕ Refusal → AnswerRecord
 outcome_record (Ok written) = answers 0 (written ∷ [])
-outcome_record (Err number) = answers 69 (number ∷ [])
+outcome_record (Err why) = answers 69 (refusal_number why ∷ [])

@@ -10,6 +10,7 @@ use Prim.Native.Nat.{ℕ, ◌+◌, ◌*◌, ◌<◌, ◌≤◌}
 use native.Mathlib.Omega.{arith}
 use lib.IntN.{ℤ, pos, negsuc, neg_ℤ}
 use lib.Signed.{◌≤ℤ◌, lt_z_yes, clash_ℤ}
+use Rattle.std.specs.Bool.{then_some}
 use Rattle.integers.specs.Extremes.{max0}
 use Rattle.integers.proofs.Certificates.{pos≤, split<}
 use Rattle.instant.specs.declared.Instant.{Instant}
@@ -63,24 +64,20 @@ module _ (s : SensedQuestion) where
       not_searched (Some t) q = ap (λ (m : Option Instant). is_never m && (in_window s 0 1 && approaches side s)) q
       not_searched None q = searches_is side s q ∙ ap (λ (b : Bool). b && approaches side s) (ap (λ (t : Instant). in_window s t.n t.m) (sym (endless_start_zero s q)) ∙ e)
 
-  abbrev instant_of : Option Instant → Instant
-  instant_of None = 0 ÷ 1
-  instant_of (Some t) = t
-
   pub opened_at : (t : Instant) → opening s ≡ Some t → (t ≡ window_start s) × Opened s
   unfolding opening
   opened_at t e = go (in_window s (window_start s).n (window_start s).m) refl e
     where
-      go : (b : Bool) → in_window s (window_start s).n (window_start s).m ≡ b → cond b (Some (window_start s)) None ≡ Some t → (t ≡ window_start s) × Opened s
-      go true o h = (sym (ap instant_of h), o)
-      go false o h = absurd (no true (ap is_never h) tt)
+      go : (b : Bool) → in_window s (window_start s).n (window_start s).m ≡ b → then_some b (window_start s) ≡ Some t → (t ≡ window_start s) × Opened s
+      go true o h = (cc, o)
+      go false o h = cc
 
   pub empty_shown : (side : Side) → Sized side s → opening s ≡ None → None ≡ time_shown side s
   unfolding opening
   empty_shown side z e = go (in_window s (window_start s).n (window_start s).m) refl e
     where
-      go : (b : Bool) → in_window s (window_start s).n (window_start s).m ≡ b → cond b (Some (window_start s)) None ≡ None → None ≡ time_shown side s
-      go true o h = absurd (no true (sym (ap is_never h)) tt)
+      go : (b : Bool) → in_window s (window_start s).n (window_start s).m ≡ b → then_some b (window_start s) ≡ None → None ≡ time_shown side s
+      go true o h = cc
       go false o h = unopened side z o
 
   -- ---- and, with it, its end, or without one every whole second
@@ -105,7 +102,7 @@ module _ (s : SensedQuestion) where
     unfolding shown_at
     end_shown side t e = go (not_beyond side s t.n t.m) refl ∙ ap (λ (m : Option Instant). shown_from side s (as_list m)) (sym e)
       where
-        go : (b : Bool) → not_beyond side s t.n t.m ≡ b → cond b (Some t) None ≡ shown_from side s (t ∷ [])
+        go : (b : Bool) → not_beyond side s t.n t.m ≡ b → then_some b t ≡ shown_from side s (t ∷ [])
         go true h = hit side s t [] (sym (inside side s t.n t.m (end_in t e)) ∙ h)
         go false h = ended side s t e ∙ miss side s t [] (sym (inside side s t.n t.m (end_in t e)) ∙ h)
 
@@ -144,8 +141,8 @@ module _ (s : SensedQuestion) where
 
   -- ---- from the turning instant on
   turned : (q : ℤ) (a d : ℕ) (x : ℤ) (t : Instant) → turning_instant q a d x ≡ Some t → (pos 0 ≤ℤ q) × (d * a + max0 (neg_ℤ x) ÷ a ≡ t)
-  turned (pos q) a d x t e = (pos≤ {m = 0} {n = q} (omega arith), ap instant_of e)
-  turned (negsuc q) a d x t e = absurd (no true (ap is_never e) tt)
+  turned (pos q) a d x t e = (pos≤ {m = 0} {n = q} (omega arith), cc)
+  turned (negsuc q) a d x t e = cc
 
   -- a path that does not approach is not searched
   departing : (side : Side) → approaches side s ≡ false → searches side s ≡ false
@@ -202,7 +199,7 @@ after_lowest s Beyond = shown_from Lower s (as_list (window_end s))
 
 module _ (s : SensedQuestion) (z : Sizes s) (o : Opened s) (h : StartTried Lower s) where
   module _ (t : Instant) (e : turning_of s ≡ Some t) where
-    at_lowest : in_window s t.n t.m ≡ true → (b : Bool) → not_beyond Lower s t.n t.m ≡ b → cond b (Some t) None ≡ shown_from Lower s (t ∷ as_list (window_end s))
+    at_lowest : in_window s t.n t.m ≡ true → (b : Bool) → not_beyond Lower s t.n t.m ≡ b → then_some b t ≡ shown_from Lower s (t ∷ as_list (window_end s))
     at_lowest w true q = hit Lower s t (as_list (window_end s)) (sym (inside Lower s t.n t.m w) ∙ q)
     at_lowest w false q = lowest_beyond s z t e w q
 
@@ -221,20 +218,15 @@ module _ (s : SensedQuestion) (z : Sizes s) (o : Opened s) (h : StartTried Lower
       go (Some t) e = by_tests t e (no_later t (window_start s)) refl (in_window s t.n t.m) refl
 
 -- ---- a lowest point inside the window is the turning instant
-abbrev inside_of : LowestPoint → Option Instant
-inside_of Passed = None
-inside_of (Inside t) = Some t
-inside_of Beyond = None
-
 pub inside_turning : (s : SensedQuestion) (t : Instant) → lowest_point s ≡ Inside t → turning_of s ≡ Some t
 unfolding lowest_point
 inside_turning s t e = go (turning_of s) e
   where
     picked : (x : Instant) (b w : Bool) → cond b Passed (cond w (Inside x) Beyond) ≡ Inside t → Some x ≡ Some t
-    picked x true w h = absurd (no true (ap (λ (p : LowestPoint). is_never (inside_of p)) h) tt)
-    picked x false true h = ap inside_of h
-    picked x false false h = absurd (no true (ap (λ (p : LowestPoint). is_never (inside_of p)) h) tt)
+    picked x true w h = cc
+    picked x false true h = cc
+    picked x false false h = cc
 
     go : (m : Option Instant) → lowest_by s m ≡ Inside t → m ≡ Some t
-    go None h = absurd (no true (ap (λ (p : LowestPoint). is_never (inside_of p)) h) tt)
+    go None h = cc
     go (Some x) h = picked x (no_later x (window_start s)) (in_window s x.n x.m) h

@@ -13,7 +13,7 @@ ghost use Rattle.path.specs.inner.Sizes.{Sizes, Sized, InReach, search_start, se
 ghost use Rattle.shown.specs.TimeShown.{approaches, searched, shown_from, time_shown};
 ghost use Rattle.shown.specs.inner.Steps.{Opened, StartTried, InstantsTried, shown_at, lowest_point, Searchable, first_reached};
 
-use conflict::{not_beyond, second_not_beyond, speed_after_delay, upper_target};
+use conflict::{not_beyond, speed_after_delay, upper_target};
 use instant::{Instant, no_later};
 use path::{SensedQuestion, Side};
 use window::{in_window, positive_part, window_end};
@@ -62,8 +62,8 @@ fn search_end(side: Side, s: SensedQuestion) -> u64
     ensures { result ≡ search_end side s }
 {
     match side {
-        Side::Lower => s.delay + 1680000,
-        Side::Upper => s.delay + 201680000,
+        Side::Lower => s.delay + 1_680_000,
+        Side::Upper => s.delay + 201_680_000,
     }
 }
 
@@ -77,7 +77,7 @@ fn first_second(side: Side, s: SensedQuestion) -> u64
     let mut hi = search_end(side, s);
     while hi - lo > 1 {
         let mid = lo + (hi - lo) / 2;
-        if second_not_beyond(side, s, mid) {
+        if not_beyond(side, s, mid, 1) {
             hi = mid;
         } else {
             lo = mid;
@@ -90,26 +90,26 @@ fn first_second(side: Side, s: SensedQuestion) -> u64
 fn from_search(side: Side, s: SensedQuestion) -> Option<Instant>
     requires sized { Sized side s }
     requires opened { Opened s × InstantsTried side s }
-    requires s_value { window_end s ≡ None }
+    requires endless { window_end s ≡ None }
     ensures { result ≡ searched side s }
 {
     if !approaching(side, s) {
         return None;
     }
-    let n = first_second(side, s);
-    Some(Instant { n: n, m: 1 })
+    Some(Instant {
+        n: first_second(side, s),
+        m: 1,
+    })
 }
 
 // An instant of the window, shown if the path is not beyond the intruder there.
+#[tactic(auto, unfolding(crate::specs::inner::Steps::shown_at))]
 fn shown_at(side: Side, s: SensedQuestion, t: Instant) -> Option<Instant>
     requires sized { Sized side s }
     requires in_reach { InReach side t.n t.m }
     ensures { result ≡ shown_at side s t }
 {
-    if not_beyond(side, s, t.n, t.m) {
-        return Some(t);
-    }
-    None
+    not_beyond(side, s, t.n, t.m).then_some(t)
 }
 
 // The window's end is in the window where its start is; without an end the search is left.
@@ -118,8 +118,7 @@ fn from_end(side: Side, s: SensedQuestion) -> Option<Instant>
     requires opened { Opened s × InstantsTried side s }
     ensures { result ≡ shown_from side s (as_list (window_end s)) }
 {
-    let end = window_end(s);
-    match end {
+    match window_end(s) {
         None => from_search(side, s),
         Some(t) => shown_at(side, s, t),
     }
@@ -135,23 +134,16 @@ enum LowestPoint {
     Beyond,
 }
 
+#[tactic(auto, unfolding(crate::specs::inner::Steps::lowest_point))]
 fn lowest_point(s: SensedQuestion, start: Instant) -> LowestPoint
     requires sizes { Sizes s }
-    requires start_value { start ≡ window_start s }
+    requires starts { start ≡ window_start s }
     ensures { result ≡ lowest_point s }
 {
-    let turning = turning_instant(s);
-    match turning {
-        None => LowestPoint::Beyond,
-        Some(t) => {
-            if no_later(t, start) {
-                return LowestPoint::Passed;
-            }
-            if in_window(s, t.n, t.m) {
-                return LowestPoint::Inside(t);
-            }
-            LowestPoint::Beyond
-        }
+    match turning_instant(s) {
+        Some(t) if no_later(t, start) => LowestPoint::Passed,
+        Some(t) if in_window(s, t.n, t.m) => LowestPoint::Inside(t),
+        _ => LowestPoint::Beyond,
     }
 }
 
@@ -159,7 +151,7 @@ fn lowest_point(s: SensedQuestion, start: Instant) -> LowestPoint
 fn from_lowest(s: SensedQuestion, start: Instant) -> Option<Instant>
     requires sizes { Sizes s }
     requires opened { Opened s × InstantsTried Lower s }
-    requires start_value { start ≡ window_start s }
+    requires starts { start ≡ window_start s }
     ensures { result ≡ shown_from Lower s (as_list (turning_instant (q s) (a s) (d s) (u_d s)) ++ as_list (window_end s)) }
 {
     match lowest_point(s, start) {
@@ -170,25 +162,21 @@ fn from_lowest(s: SensedQuestion, start: Instant) -> Option<Instant>
 }
 
 // Is d in conflict? A window that starts no earlier has nothing to show there.
+#[tactic(auto, using(crate::proofs::OpenWindow::late_start), unfolding(path::specs::inner::Tests::in_conflict))]
 fn conflict_at_delay(s: SensedQuestion, start: Instant) -> bool
     requires sizes { Sizes s }
     requires opened { Opened s × StartTried Lower s }
-    requires start_value { start ≡ window_start s }
+    requires starts { start ≡ window_start s }
     ensures { result ≡ in_conflict Lower s (d s) 1 }
 {
     let d = s.delay;
-    if start.n < d * start.m {
-        if in_window(s, d, 1) {
-            return not_beyond(Side::Lower, s, d, 1);
-        }
-    }
-    false
+    start.n < d * start.m && in_window(s, d, 1) && not_beyond(Side::Lower, s, d, 1)
 }
 
 fn from_delay(s: SensedQuestion, start: Instant) -> Option<Instant>
     requires sizes { Sizes s }
     requires opened { Opened s × StartTried Lower s }
-    requires start_value { start ≡ window_start s }
+    requires starts { start ≡ window_start s }
     ensures { result ≡ shown_from Lower s (path_instants Lower s ++ as_list (window_end s)) }
 {
     if conflict_at_delay(s, start) {
@@ -212,7 +200,7 @@ fn from_start(s: SensedQuestion) -> Option<Instant>
 // The time shown on a side of a window that opens at a start. Between the start and the end only the lower path has instants.
 pub fn time_shown(side: Side, s: SensedQuestion, start: Instant) -> Option<Instant>
     requires sized { Sized side s }
-    requires s_value { opening s ≡ Some start }
+    requires opens { opening s ≡ Some start }
     ensures { result ≡ time_shown side s }
 {
     if not_beyond(side, s, start.n, start.m) {

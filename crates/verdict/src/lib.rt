@@ -5,13 +5,13 @@ ghost use Rattle.std.specs.Prelude.{◌≡◌, true, None, Ok, Some};
 ghost use Rattle.path.specs.declared.Side.TheVariants.{Lower, Upper};
 ghost use Rattle.path.specs.inner.Sizes.{Sized};
 ghost use Rattle.path.specs.inner.Tests.{opening};
-ghost use Rattle.question.specs.Refusals.{two_sided, refusal};
+ghost use Rattle.question.specs.Refusals.{two_sided};
 ghost use Rattle.sensed.specs.Sensed.{sensed_question};
 ghost use Rattle.verdict.specs.Verdicts.{one_sided_verdict, two_sided_verdict, verdict_of, verdict};
 
 use instant::{Instant, Time, lowest_terms};
 use path::{SensedQuestion, Side};
-use question::{Encounter, Question, Settings, two_sided};
+use question::{AcceptedQuestion, Question, two_sided};
 use sensed::sensed_question;
 use shown::time_shown;
 use window::opening;
@@ -78,13 +78,12 @@ fn open_verdict(question: Question, s: SensedQuestion, start: Instant) -> Verdic
 }
 
 // The verdict on an accepted question.
-pub fn verdict_on(encounter: Encounter, settings: Settings, question: Question) -> Verdict
-    requires { refusal encounter settings question ≡ Ok tt }
-    ensures { result ≡ verdict question (sensed_question encounter settings question) }
+pub fn verdict_on(asked: AcceptedQuestion) -> Verdict
+    ensures { result ≡ verdict asked.question (sensed_question asked.encounter asked.settings asked.question) }
 {
-    let s = sensed_question(encounter, settings, question);
+    let s = sensed_question(asked);
     match opening(s) {
-        None => empty_verdict(question),
-        Some(start) => open_verdict(question, s, start),
+        None => empty_verdict(asked.question),
+        Some(start) => open_verdict(asked.question, s, start),
     }
 }

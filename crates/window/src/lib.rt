@@ -2,7 +2,7 @@
 // Locals bear document 01's letters (`path`, specs/Letters.antt).
 #![tactic(auto)]
 
-ghost use Rattle.std.specs.Prelude.{◌≡◌, ◌<◌, ◌^◌, nat_abs};
+ghost use Rattle.std.specs.Prelude.{◌≡◌, nat_abs};
 ghost use Rattle.integers.specs.Extremes.{max0};
 ghost use Rattle.path.specs.declared.Side.TheVariants.{Lower};
 ghost use Rattle.path.specs.Letters.{r, c, p};
@@ -17,21 +17,14 @@ use path::SensedQuestion;
 pub fn positive_part(x: i64) -> u64
     ensures { result ≡ max0 x }
 {
-    if x < 0 {
-        return 0;
-    }
-    x as u64
+    x.max(0) as u64
 }
 
 // |x|
 pub fn absolute(x: i64) -> u64
-    requires { nat_abs x < 2 ^ 63 }
     ensures { result ≡ nat_abs x }
 {
-    if x < 0 {
-        return (-x) as u64;
-    }
-    x as u64
+    x.unsigned_abs()
 }
 
 // Is n/m no later than the limit?
@@ -60,19 +53,14 @@ pub fn distance_at(s: SensedQuestion, n: u64, m: u64) -> i64
 }
 
 // Is n/m in the window? Its edges count, and so does the limit itself.
+#[tactic(auto, unfolding(path::specs::inner::Tests::in_window))]
 pub fn in_window(s: SensedQuestion, n: u64, m: u64) -> bool
     requires sizes { Sizes s }
     requires in_reach { InReach Lower n m }
     ensures { result ≡ in_window s n m }
 {
     let ahead = distance_at(s, n, m);
-    let apart = absolute(ahead);
-    let p = s.radius;
-    if p * m < apart {
-        return false;
-    }
-    let limit = s.limit;
-    in_time(limit, n, m)
+    absolute(ahead) <= s.radius * m && in_time(s.limit, n, m)
 }
 
 // The window's first time: none where the intruder has passed, stands still outside the puck's radius, or comes there after the limit.
@@ -88,16 +76,9 @@ pub fn opening(s: SensedQuestion) -> Option<Instant>
     let ahead = positive_part(r - p);
     let c = s.closing_speed;
     if c == 0 {
-        if ahead == 0 {
-            return Some(Instant { n: 0, m: 1 });
-        }
-        return None;
+        return (ahead == 0).then_some(Instant { n: 0, m: 1 });
     }
-    let limit = s.limit;
-    if in_time(limit, ahead, c) {
-        return Some(Instant { n: ahead, m: c });
-    }
-    None
+    in_time(s.limit, ahead, c).then_some(Instant { n: ahead, m: c })
 }
 
 // Where the intruder leaves the puck's radius, for a closing speed above 0.
@@ -105,32 +86,23 @@ fn window_exit(s: SensedQuestion) -> Instant
     requires { Sizes s }
     ensures { result ≡ exit_of (c s) (r s) (p s) }
 {
-    let c = s.closing_speed;
     let r = s.distance;
     let p = s.radius as i64;
-    let n = positive_part(r + p);
-    Instant { n: n, m: c }
+    Instant {
+        n: positive_part(r + p),
+        m: s.closing_speed,
+    }
 }
 
+// Its end: its exit or the limit, whichever is earlier, or none.
 pub fn window_end(s: SensedQuestion) -> Option<Instant>
     requires { Sizes s }
     ensures { result ≡ window_end s }
 {
-    let c = s.closing_speed;
-    let limit = s.limit;
-    match limit {
-        None => {
-            if c == 0 {
-                return None;
-            }
-            Some(window_exit(s))
-        }
-        Some(last) => {
-            let end = Instant { n: last, m: 1 };
-            if c == 0 {
-                return Some(end);
-            }
-            Some(earlier(window_exit(s), end))
-        }
+    match (s.closing_speed, s.limit) {
+        (0, None) => None,
+        (0, Some(last)) => Some(Instant { n: last, m: 1 }),
+        (_, None) => Some(window_exit(s)),
+        (_, Some(last)) => Some(earlier(window_exit(s), Instant { n: last, m: 1 })),
     }
 }

@@ -1,6 +1,7 @@
 -- Definitions that only inner contracts use; an instructor need not read them.
 -- The window and conflict once more, as tests that compute; and the window's first time.
-use Rattle.std.specs.Prelude.{Bool, true, cond, ◌&&◌, ℕ, ◌*◌, leb, nat_abs, None, Option, Some}
+use Rattle.std.specs.Prelude.{Bool, true, ◌&&◌, ℕ, ◌*◌, leb, nat_abs, None, Option, Some}
+use Rattle.std.specs.Bool.{then_some}
 use Rattle.std.specs.Int.Signed.{le_z}
 use Rattle.path.specs.declared.SensedQuestion.{SensedQuestion}
 use Rattle.path.specs.declared.Side.{Side}
@@ -31,4 +32,4 @@ in_conflict side s n m = in_window s n m && not_beyond side s n m
 -- The window's first time: its start, or none where the window does not hold it, as then it is empty.
 unfoldable pub opening : SensedQuestion → Option Instant
 unfolding in_window
-opening s = cond (in_window s (window_start s).n (window_start s).m) (Some (window_start s)) None
+opening s = then_some (in_window s (window_start s).n (window_start s).m) (window_start s)

@@ -31,46 +31,46 @@ read_sign w sense e =
 pub overflow_mul-result : goal.overflow_mul-result
 overflow_mul-result c =
     let s = read_sign _ _ c.sign_of-w.ensures in
-    let h = read_height c.args.encounter c.args.settings c.args.question c.requires in
+    let h = read_height c.args.asked.encounter c.args.asked.settings c.args.asked.question c.args.asked.accepted in
     fits (search machine) tt
 
 pub overflow_sub-result : goal.overflow_sub-result
 overflow_sub-result c =
-    let v = read_speed c.args.encounter c.args.settings c.args.question c.requires in
-    let i = read_intruder c.args.encounter c.args.settings c.args.question c.requires in
+    let v = read_speed c.args.asked.encounter c.args.asked.settings c.args.asked.question c.args.asked.accepted in
+    let i = read_intruder c.args.asked.encounter c.args.asked.settings c.args.asked.question c.args.asked.accepted in
     fits (search machine) tt
 
 pub overflow_mul-result-2 : goal.overflow_mul-result-2
 overflow_mul-result-2 c =
     let s = read_sign _ _ c.sign_of-w.ensures in
-    let v = read_speed c.args.encounter c.args.settings c.args.question c.requires in
-    let i = read_intruder c.args.encounter c.args.settings c.args.question c.requires in
+    let v = read_speed c.args.asked.encounter c.args.asked.settings c.args.asked.question c.args.asked.accepted in
+    let i = read_intruder c.args.asked.encounter c.args.asked.settings c.args.asked.question c.args.asked.accepted in
     fits (search machine) tt
 
 pub overflow_sub-result-2 : goal.overflow_sub-result-2
 overflow_sub-result-2 c =
-    let v = read_target c.args.encounter c.args.settings c.args.question c.requires in
-    let i = read_intruder c.args.encounter c.args.settings c.args.question c.requires in
+    let v = read_target c.args.asked.encounter c.args.asked.settings c.args.asked.question c.args.asked.accepted in
+    let i = read_intruder c.args.asked.encounter c.args.asked.settings c.args.asked.question c.args.asked.accepted in
     fits (search machine) tt
 
 pub overflow_mul-result-3 : goal.overflow_mul-result-3
 overflow_mul-result-3 c =
     let s = read_sign _ _ c.sign_of-w.ensures in
-    let v = read_target c.args.encounter c.args.settings c.args.question c.requires in
-    let i = read_intruder c.args.encounter c.args.settings c.args.question c.requires in
+    let v = read_target c.args.asked.encounter c.args.asked.settings c.args.asked.question c.args.asked.accepted in
+    let i = read_intruder c.args.asked.encounter c.args.asked.settings c.args.asked.question c.args.asked.accepted in
     fits (search machine) tt
 
 pub overflow_sub-result-3 : goal.overflow_sub-result-3
 overflow_sub-result-3 c =
-    let v = read_upper_target c.args.encounter c.args.settings c.args.question c.requires in
-    let i = read_intruder c.args.encounter c.args.settings c.args.question c.requires in
+    let v = read_upper_target c.args.asked.encounter c.args.asked.settings c.args.asked.question c.args.asked.accepted in
+    let i = read_intruder c.args.asked.encounter c.args.asked.settings c.args.asked.question c.args.asked.accepted in
     fits (search machine) tt
 
 pub overflow_mul-result-4 : goal.overflow_mul-result-4
 overflow_mul-result-4 c =
     let s = read_sign _ _ c.sign_of-w.ensures in
-    let v = read_upper_target c.args.encounter c.args.settings c.args.question c.requires in
-    let i = read_intruder c.args.encounter c.args.settings c.args.question c.requires in
+    let v = read_upper_target c.args.asked.encounter c.args.asked.settings c.args.asked.question c.args.asked.accepted in
+    let i = read_intruder c.args.asked.encounter c.args.asked.settings c.args.asked.question c.args.asked.accepted in
     fits (search machine) tt
 
 -- a stored value, and w times a stored difference
@@ -103,4 +103,4 @@ is_motion x y q e w is =
     (result {t = stored_difference w q.upper_target x.intruder_speed} (search machine) tt ∙ sensed (q.upper_target -ℤ x.intruder_speed))
 
 pub returns : goal.returns
-returns c = is_motion c.args.encounter c.args.settings c.args.question c.requires _ (c.sign_of-w.ensures ∙ ap sign c.sense_of.ensures)
+returns c = is_motion c.args.asked.encounter c.args.asked.settings c.args.asked.question c.args.asked.accepted _ (c.sign_of-w.ensures ∙ ap sign c.sense_of.ensures)

@@ -28,8 +28,8 @@ upper_natural x y z e = (upper_between x y z e).1.from
 
 pub overflow_cast-result : goal.overflow_cast-result
 overflow_cast-result c =
-    let f : SFits w64 c.args.question.upper_strength = search rules in
-    rw (to_z-of_z f) (yes_non_neg (upper_natural c.args.encounter c.args.settings c.args.question c.requires), Fits-nat_abs tt f)
+    let f : SFits w64 c.args.asked.question.upper_strength = search rules in
+    rw (to_z-of_z f) (yes_non_neg (upper_natural c.args.asked.encounter c.args.asked.settings c.args.asked.question c.args.asked.accepted), Fits-nat_abs tt f)
 
 same_question : {r r' level level' u u' q q' upper upper' : ℤ} {c c' p p' k k' a a' d d' e e' b b' : ℕ} {l l' : (Option ℕ)} → r ≡ r' → c ≡ c' → p ≡ p' → k ≡ k' → level ≡ level' → u ≡ u' → q ≡ q' → a ≡ a' → d ≡ d' → e ≡ e' → upper ≡ upper' → b ≡ b' → l ≡ l'
     → ◌≡◌ {A = SensedQuestion}
@@ -40,13 +40,13 @@ same_question e₁ e₂ e₃ e₄ e₅ e₆ e₇ e₈ e₉ e₁₀ e₁₁ e₁�
 pub returns : goal.returns
 unfolding sensed_question
 returns c =
-    let x = c.args.encounter in
-    let y = c.args.settings in
-    let z = c.args.question in
-    let natural = upper_natural x y z c.requires in
-    let f = exact_fields x y z c.requires in
+    let x = c.args.asked.encounter in
+    let y = c.args.asked.settings in
+    let z = c.args.asked.question in
+    let natural = upper_natural x y z c.args.asked.accepted in
+    let f = exact_fields x y z c.args.asked.accepted in
     let e : c.sensed_motion-motion.result ≡ sensed_motion x z = c.sensed_motion-motion.ensures in
-    let g = subst ExactMotion (sym e) (exact_motion x y z c.requires) in
+    let g = subst ExactMotion (sym e) (exact_motion x y z c.args.asked.accepted) in
     same_question
     f.distance
     (c.positive_part.ensures ∙ ap max0 f.closing)

@@ -33,30 +33,30 @@ pub not_beyond-requires-clause-in_reach : goal.not_beyond-requires-clause-in_rea
 not_beyond-requires-clause-in_reach c =
     let s = c.args.s in
     let side = c.args.side in
-    side_reach side (subst Near (sym (opened_at s c.args.start c.requires.s_value).0) (window_start_near s (sizes_of side s c.requires.sized)))
+    side_reach side (subst Near (sym (opened_at s c.args.start c.requires.opens).0) (window_start_near s (sizes_of side s c.requires.sized)))
 
 pub returns-then-not_beyond : goal.returns-then-not_beyond
-returns-then-not_beyond c = first_hit c.args.s c.args.start c.requires.s_value c.args.side (sym c.not_beyond.ensures ∙ c.if-not_beyond.true)
+returns-then-not_beyond c = first_hit c.args.s c.args.start c.requires.opens c.args.side (sym c.not_beyond.ensures ∙ c.if-not_beyond.true)
 
 pub from_delay-requires-clause-opened : goal.from_delay-requires-clause-opened
 from_delay-requires-clause-opened c =
-    let h = missed c.args.side Lower c.args.s c.args.start c.in-Lower.is c.requires.s_value c.requires.sized (sym c.not_beyond.ensures ∙ c.if-not_beyond.false) in
-    ((opened_at c.args.s c.args.start c.requires.s_value).1, h.start)
+    let h = missed c.args.side Lower c.args.s c.args.start c.in-Lower.is c.requires.opens c.requires.sized (sym c.not_beyond.ensures ∙ c.if-not_beyond.false) in
+    ((opened_at c.args.s c.args.start c.requires.opens).1, h.start)
 
-pub from_delay-requires-clause-start_value : goal.from_delay-requires-clause-start_value
-from_delay-requires-clause-start_value c = (opened_at c.args.s c.args.start c.requires.s_value).0
+pub from_delay-requires-clause-starts : goal.from_delay-requires-clause-starts
+from_delay-requires-clause-starts c = (opened_at c.args.s c.args.start c.requires.opens).0
 
 pub from_start-requires-clause-opened : goal.from_start-requires-clause-opened
 from_start-requires-clause-opened c =
-    let h = missed c.args.side Upper c.args.s c.args.start c.in-Upper.is c.requires.s_value c.requires.sized (sym c.not_beyond.ensures ∙ c.if-not_beyond.false) in
-    ((opened_at c.args.s c.args.start c.requires.s_value).1, h.start)
+    let h = missed c.args.side Upper c.args.s c.args.start c.in-Upper.is c.requires.opens c.requires.sized (sym c.not_beyond.ensures ∙ c.if-not_beyond.false) in
+    ((opened_at c.args.s c.args.start c.requires.opens).1, h.start)
 
 pub returns-in-Lower : goal.returns-in-Lower
 returns-in-Lower c =
-    let h = missed c.args.side Lower c.args.s c.args.start c.in-Lower.is c.requires.s_value c.requires.sized (sym c.not_beyond.ensures ∙ c.if-not_beyond.false) in
+    let h = missed c.args.side Lower c.args.s c.args.start c.in-Lower.is c.requires.opens c.requires.sized (sym c.not_beyond.ensures ∙ c.if-not_beyond.false) in
     c.from_delay.ensures ∙ h.rest
 
 pub returns-in-Upper : goal.returns-in-Upper
 returns-in-Upper c =
-    let h = missed c.args.side Upper c.args.s c.args.start c.in-Upper.is c.requires.s_value c.requires.sized (sym c.not_beyond.ensures ∙ c.if-not_beyond.false) in
+    let h = missed c.args.side Upper c.args.s c.args.start c.in-Upper.is c.requires.opens c.requires.sized (sym c.not_beyond.ensures ∙ c.if-not_beyond.false) in
     c.from_start.ensures ∙ h.rest

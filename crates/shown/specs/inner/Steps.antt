@@ -1,6 +1,7 @@
 -- Definitions that only inner contracts use; an instructor need not read them. What the steps of the code know and give: which instants have been tried
 -- without a conflict, where the path is lowest, and the first whole second by its height alone.
 use Rattle.std.specs.Prelude.{◌≡◌, true, false, cond, None, Option, Some}
+use Rattle.std.specs.Bool.{then_some}
 use Rattle.instant.specs.declared.Instant.{Instant}
 use Rattle.instant.specs.Order.{no_later}
 use Rattle.path.specs.declared.SensedQuestion.{SensedQuestion}
@@ -32,7 +33,7 @@ InstantsTried Upper s = StartTried Upper s
 -- an instant of the window, shown if the path is not beyond the intruder there
 unfoldable pub shown_at : Side → SensedQuestion → Instant → Option Instant
 unfolding not_beyond
-shown_at side s t = cond (not_beyond side s t.n t.m) (Some t) None
+shown_at side s t = then_some (not_beyond side s t.n t.m) t
 
 -- Where the path's lowest point after the delay lies, by its turning instant: "d + max(0, −u_d)/a if q ≥ 0"
 abbrev pub lowest_by : SensedQuestion → Option Instant → LowestPoint

@@ -36,17 +36,17 @@ sized x y z s accepted is =
     subst (Sides z) (sym is) (lower, λ two. (lower, accepted_upper_sizes x y z accepted two))
 
 pub opening-requires : goal.opening-requires
-opening-requires c = (sized c.args.encounter c.args.settings c.args.question _ c.requires c.sensed_question-s.ensures).0
+opening-requires c = (sized c.args.asked.encounter c.args.asked.settings c.args.asked.question _ c.args.asked.accepted c.sensed_question-s.ensures).0
 
 pub open_verdict-requires-clause-sized : goal.open_verdict-requires-clause-sized
-open_verdict-requires-clause-sized c = (sized c.args.encounter c.args.settings c.args.question _ c.requires c.sensed_question-s.ensures).0
+open_verdict-requires-clause-sized c = (sized c.args.asked.encounter c.args.asked.settings c.args.asked.question _ c.args.asked.accepted c.sensed_question-s.ensures).0
 
 pub open_verdict-requires-clause-sized_2 : goal.open_verdict-requires-clause-sized_2
-open_verdict-requires-clause-sized_2 c = (sized c.args.encounter c.args.settings c.args.question _ c.requires c.sensed_question-s.ensures).1
+open_verdict-requires-clause-sized_2 c = (sized c.args.asked.encounter c.args.asked.settings c.args.asked.question _ c.args.asked.accepted c.sensed_question-s.ensures).1
 
 pub returns-in-None : goal.returns-in-None
 returns-in-None c =
-    let z = c.args.question in
+    let z = c.args.asked.question in
     c.empty_verdict.ensures
-    ∙ empty-is z c.sensed_question-s.result (sized c.args.encounter c.args.settings z _ c.requires c.sensed_question-s.ensures) (sym c.opening.ensures ∙ c.in-None.is)
+    ∙ empty-is z c.sensed_question-s.result (sized c.args.asked.encounter c.args.asked.settings z _ c.args.asked.accepted c.sensed_question-s.ensures) (sym c.opening.ensures ∙ c.in-None.is)
     ∙ ap (verdict z) c.sensed_question-s.ensures
