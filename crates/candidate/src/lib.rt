@@ -5,7 +5,7 @@ ghost use Rattle.std.specs.Prelude.{◌≡◌};
 ghost use Rattle.candidate.specs.Advice.{asked, flight_refusal};
 ghost use Rattle.candidate.specs.FlightAnswers.{flight_answer};
 
-use flown::{first_inside, flight_obeys};
+use flown::{Flight, first_inside, flight_obeys};
 use question::{AcceptedQuestion, Encounter, Question, Refusal, Settings, sense_of};
 use refusals::check_question;
 use sensed::sensed_question;
@@ -73,14 +73,18 @@ pub fn judge_flight(
 {
     check_flight(encounter, settings, advice, flight)?;
     let question = asked(advice);
-    let s = sensed_question(AcceptedQuestion {
+    let accepted = AcceptedQuestion {
         encounter,
         settings,
         question,
-    });
-    let w = sense_of(question);
+    };
+    let flight = Flight {
+        question: sensed_question(accepted),
+        sense: sense_of(question),
+        numbers: flight,
+    };
     Ok(Flown {
-        obeys: flight_obeys(s, w, flight),
-        inside: first_inside(s, w, flight),
+        obeys: flight_obeys(flight),
+        inside: first_inside(flight),
     })
 }

@@ -1,2 +1,4 @@
 -- Definitions that only inner contracts use; an instructor need not read them.
 pub mod Places
+pub mod OneProof
+pub mod LeftPlaces

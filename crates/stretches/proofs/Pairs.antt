@@ -1,14 +1,13 @@
--- The numbers of a flight and its stretches: how many there are, and what stands past the last. Assumes nothing.
+-- The numbers of a flight and its stretches: how many there are. Assumes nothing.
 use mathlib.Core.Path.{◌≡◌, refl, ap, ap₂, ◌∙◌}
 use mathlib.Core.Bool.{Bool, ◌&&◌}
 use mathlib.Core.List.{List, [], ◌∷◌}
-use Prim.Native.Nat.{ℕ, zero, suc, ◌/◌, ◌%◌, ◌≤◌}
+use Prim.Native.Nat.{ℕ, suc, ◌/◌, ◌%◌}
 use native.Mathlib.Omega.{arith}
 use lib.Dec.{eqb, leb}
 use lib.IntN.{ℤ}
-use lib.ListN.{length, get_or}
+use lib.ListN.{length}
 use Rattle.limits.specs.Limits.{min_stretches, max_stretches}
-use Rattle.flight.specs.declared.Stretch.{Stretch}
 use Rattle.flight.specs.FlightLimits.{count_within}
 use Rattle.flight.specs.HandedIn.{flight_of, paired}
 
@@ -26,8 +25,3 @@ pairs (g ∷ t ∷ l) = pairs l ∙ ap (λ (rest : ℕ). eqb rest 0) {x = length
 
 pub counted : (l : List ℤ) → (paired l && count_within (flight_of l)) ≡ (eqb (length l % 2) 0 && (leb min_stretches (length l / 2) && leb (length l / 2) max_stretches))
 counted l = ap₂ (λ (even : Bool) (n : ℕ). even && (leb min_stretches n && leb n max_stretches)) (pairs l) (count l)
-
-pub past_the_last : (l : List Stretch) (i : ℕ) (z : Stretch) → length l ≤ i → get_or l i z ≡ z
-past_the_last [] i z h = refl
-past_the_last (x ∷ l) zero z h = absurd (omega arith)
-past_the_last (x ∷ l) (suc i) z h = past_the_last l i z (omega arith)

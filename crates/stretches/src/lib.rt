@@ -2,13 +2,12 @@
 // limits; here are the tests and the stretches.
 #![tactic(auto)]
 
-ghost use Rattle.std.specs.Prelude.{◌≡◌, ◌&&◌, ◌≤◌, leb, length, get_or};
+ghost use Rattle.std.specs.Prelude.{◌≡◌, ◌&&◌, ◌≤◌, leb, length};
 ghost use Rattle.std.specs.Iterator.{YieldsFirst, item_count};
 ghost use Rattle.limits.specs.Limits.{max_stretches, max_flight_seconds};
 ghost use Rattle.flight.specs.Flight.{duration};
 ghost use Rattle.flight.specs.FlightLimits.{stretch_within, stretches_within, count_within};
 ghost use Rattle.flight.specs.HandedIn.{flight_of, paired, numbers_within};
-ghost use Rattle.stretches.specs.inner.NoStretch.{no_stretch};
 
 use flight::Stretch;
 use limits::{
@@ -18,7 +17,7 @@ use limits::{
 use window::positive_part;
 
 // The stretches of a flight's numbers, in flight order, a pair for each: those that are left. A number without its pair is none.
-#[derive(Drop)]
+#[derive(Clone, Copy)]
 pub struct Stretches<'a>(pub &'a [i64]);
 
 impl<'a> Iterator for Stretches<'a> {
@@ -37,24 +36,6 @@ impl<'a> Iterator for Stretches<'a> {
             acceleration: *acceleration,
             seconds: positive_part(*seconds),
         })
-    }
-}
-
-// The i-th stretch, from 0; past the last there is none.
-pub fn stretch_at(flight: &[i64], i: usize) -> Stretch
-    ensures { result ≡ get_or (flight_of flight.now) i no_stretch }
-{
-    if flight.len() / 2 <= i {
-        return Stretch {
-            acceleration: 0,
-            seconds: 0,
-        };
-    }
-    let acceleration = flight[2 * i];
-    let seconds = flight[2 * i + 1];
-    Stretch {
-        acceleration: acceleration,
-        seconds: positive_part(seconds),
     }
 }
 
