@@ -34,12 +34,8 @@ use Rattle.path.proofs.Risen.{risen, fallen}
 use Rattle.shown.specs.TimeShown.{is_never, approaches, searches, searched, shown_from, time_shown}
 use Rattle.shown.specs.declared.LowestPoint.{LowestPoint}
 use Rattle.shown.specs.declared.LowestPoint.TheVariants.{Passed, Inside, Beyond}
-use Rattle.shown.specs.inner.Steps.{Opened, StartTried, shown_at, lowest_by, lowest_point}
+use Rattle.shown.specs.inner.Steps.{Opened, StartTried, shown_at, turning_of, lowest_by, lowest_point}
 use Rattle.shown.proofs.Steps.{yes, no, true_of, false_of, inside, outside_clear, hit, miss, no_search, only_search, ended, searches_is}
-
--- the turning instant of a question, if there is one
-abbrev pub turning_of : SensedQuestion → Option Instant
-turning_of s = turning_instant s.target s.strength s.delay (u_d s)
 
 -- where no instant of a list has a conflict, and nothing is searched, nothing is shown
 none_shown : (side : Side) (s : SensedQuestion) (l : List Instant) → ((x : Instant) → Among x l → ¬ Conflict side s x.n x.m) → searches side s ≡ false → None ≡ shown_from side s l

@@ -177,11 +177,6 @@ pub enough : (side : Side) (s : SensedQuestion) → Sized side s → search_end 
 enough Lower s z = omega (arith, z.d_hi)
 enough Upper s z = omega arith
 
--- the seconds of the search are in reach of the comparisons
-pub search_in_reach : (side : Side) (s : SensedQuestion) → Sized side s → search_end side s ≤ farthest side
-search_in_reach Lower s z = omega (arith, z.d_hi)
-search_in_reach Upper s z = omega arith
-
 -- where lo and hi meet, hi is the first
 pub bracket_found : (side : Side) (s : SensedQuestion) → Sized side s → Searchable side s → (lo hi : ℕ) → Bracket side s lo hi → hi ≤ lo + 1 → first_reached side s ≡ Some (hi ÷ 1)
 unfolding first_reached

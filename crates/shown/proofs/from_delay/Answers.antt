@@ -6,15 +6,15 @@ use Rattle.path.specs.declared.Side.TheVariants.{Lower}
 use Rattle.path.specs.Window.{window_end}
 use Rattle.path.specs.Instants.{as_list}
 use Rattle.shown.proofs.Steps.{hit, miss}
-use Rattle.shown.proofs.OpenWindow.{turning_of}
+use Rattle.shown.specs.inner.Steps.{turning_of}
 use Rattle.shown.proofs.from_delay.Goals as goal
 
 pub returns-then-conflict_at_delay : goal.returns-then-conflict_at_delay
 returns-then-conflict_at_delay c =
-    let s = c.args.s in
+    let s = c.args.question.sensed in
     hit Lower s (s.delay ÷ 1) (as_list (turning_of s) ++ as_list (window_end s)) (sym c.conflict_at_delay.ensures ∙ c.if-conflict_at_delay.true)
 
 pub returns : goal.returns
 returns c =
-    let s = c.args.s in
+    let s = c.args.question.sensed in
     c.from_lowest.ensures ∙ miss Lower s (s.delay ÷ 1) (as_list (turning_of s) ++ as_list (window_end s)) (sym c.conflict_at_delay.ensures ∙ c.if-conflict_at_delay.false)
