@@ -43,9 +43,10 @@ pub fn speed_after_delay(asked: SideQuestion) -> i64
 fn rule_strength(asked: SideQuestion) -> u64
     ensures { result ≡ strength_of asked.side asked.question.sensed }
 {
+    let s = asked.question.sensed;
     match asked.side {
-        Side::Lower => asked.question.sensed.strength,
-        Side::Upper => asked.question.sensed.upper_strength,
+        Side::Lower => s.strength,
+        Side::Upper => s.upper_strength,
     }
 }
 
@@ -53,9 +54,10 @@ fn rule_strength(asked: SideQuestion) -> u64
 pub fn rule_target(asked: SideQuestion) -> i64
     ensures { result ≡ target_of asked.side asked.question.sensed }
 {
+    let s = asked.question.sensed;
     match asked.side {
-        Side::Lower => asked.question.sensed.target,
-        Side::Upper => asked.question.sensed.upper_target.max(speed_after_delay(asked)),
+        Side::Lower => s.target,
+        Side::Upper => s.upper_target.max(speed_after_delay(asked)),
     }
 }
 
@@ -205,6 +207,9 @@ pub fn not_beyond(asked: SideQuestion, t: Instant) -> bool
     if t.n <= end {
         return delay_not_beyond(asked, t);
     }
-    let since = Instant { n: t.n - end, m: t.m };
+    let since = Instant {
+        n: t.n - end,
+        m: t.m,
+    };
     rule_not_beyond(asked.side, advice_rule(asked), since)
 }

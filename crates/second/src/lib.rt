@@ -18,8 +18,9 @@ ghost use Rattle.second.specs.inner.SecondTests.{obeys_in, crosses_in, inside_at
 ghost use Rattle.second.specs.inner.SecondSizes.{MotionSizes, ApproachSizes};
 
 use flight::Part;
+use instant::Instant;
 use limits::{MAX_FLIGHT_ACCELERATION, MAX_FLIGHT_SECONDS, MAX_SPEED};
-use path::SensedQuestion;
+use path::{SensedQuestion, SizedQuestion};
 use window::{absolute, distance_at, positive_part};
 
 // How a flight moves at the second's first instant, in the question's sense: twice its height, its speed, and the acceleration that it keeps for the second.
@@ -64,7 +65,7 @@ pub fn inside_at(s: SensedQuestion, n: u64, motion: Motion) -> bool
     requires motion_sizes { MotionSizes motion }
     ensures { result ≡ inside_at_start s n motion }
 {
-    let ahead = distance_at(s, n, 1);
+    let ahead = distance_at(SizedQuestion { sensed: s }, Instant { n, m: 1 });
     let apart = absolute(ahead);
     let level = s.level;
     let height = motion.height;
@@ -97,7 +98,7 @@ fn near_part(s: SensedQuestion, n: u64) -> Part
     requires n_le_max_flight_seconds { n ≤ max_flight_seconds }
     ensures { result ≡ near_part (c s) (p s) (distance_at s n 1) }
 {
-    let ahead = distance_at(s, n, 1);
+    let ahead = distance_at(SizedQuestion { sensed: s }, Instant { n, m: 1 });
     let c = s.closing_speed;
     let p = s.radius;
     if c == 0 {

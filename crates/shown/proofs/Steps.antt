@@ -19,7 +19,7 @@ use Rattle.path.specs.Window.{window_end}
 use Rattle.path.specs.inner.Tests.{in_window, not_beyond, in_conflict}
 use Rattle.path.specs.Conflict.{NotBeyond}
 use Rattle.path.specs.Instants.{Among, as_list}
-use Rattle.path.specs.inner.Sizes.{Sized, farthest, search_start, search_end}
+use Rattle.path.specs.inner.Sizes.{Sized, search_start, search_end}
 use Rattle.path.proofs.Decisions.{window_decided, not_beyond_decided}
 use Rattle.path.proofs.WindowEnds.{between_window, endless_start_zero, endless_start}
 use Rattle.path.proofs.SideProfiles.{Approaches, reaches_end}

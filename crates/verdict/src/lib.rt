@@ -67,9 +67,21 @@ fn open_verdict(question: Question, s: SizedQuestion, start: Instant) -> Verdict
     requires opens { opening s.sensed ≡ Some start }
     ensures { result ≡ verdict question s.sensed }
 {
-    let lower = time_shown(SideQuestion { side: Side::Lower, question: s }, start);
+    let lower = time_shown(
+        SideQuestion {
+            side: Side::Lower,
+            question: s,
+        },
+        start,
+    );
     if two_sided(question) {
-        let upper = time_shown(SideQuestion { side: Side::Upper, question: s }, start);
+        let upper = time_shown(
+            SideQuestion {
+                side: Side::Upper,
+                question: s,
+            },
+            start,
+        );
         return two_sided_verdict(lower, upper);
     }
     one_sided_verdict(lower)

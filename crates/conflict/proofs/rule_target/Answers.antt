@@ -4,7 +4,6 @@ use borrow.Author.Rules.{sfits_of}
 use mir.Syntax.{w64}
 use mir.Facts.{to_z-of_z}
 use Rattle.integers.proofs.Machine.{bounded, read_stored}
-use Rattle.path.specs.declared.Side.TheVariants.{Upper}
 use Rattle.path.specs.Letters.{upper_q}
 use Rattle.path.specs.inner.Sizes.{max_speed_difference}
 use Rattle.conflict.proofs.Fields.{larger_is, upper_target_is, read_speed_after_delay}
