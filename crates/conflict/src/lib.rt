@@ -2,6 +2,8 @@
 //
 // `path` compares heights times 2·a·m², up to 4.4e19, which 64 bits don't hold. So each comparison here has a factor that its two sides share divided out:
 // an arc stands times 2·m², a straight times 2·a·m. Locals bear document 01's letters (`path`, specs/Letters.antt).
+//
+// That an instant is in reach is a clause: a type for it would be built at each call, and proved there all the same.
 #![tactic(auto)]
 
 ghost use Rattle.std.specs.Prelude.{◌≡◌, ◌*◌, ◌≤◌, ◌-ℤ◌, nat_abs};
@@ -100,7 +102,7 @@ fn delay_not_beyond(asked: SideQuestion, t: Instant) -> bool
     }
 }
 
-// An advice rule from any height and speed on, so that one comparison serves both sides.
+// An advice rule from any height and speed on, so that one comparison serves both sides. (Its sizes are a clause: `rule_of` makes rules of any question.)
 #[derive(Clone, Copy)]
 struct AdviceRule {
     strength: u64,

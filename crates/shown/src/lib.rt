@@ -2,12 +2,13 @@
 #![tactic(auto)]
 
 ghost use Rattle.std.specs.Prelude.{◌≡◌, ◌++◌, None, Some};
+ghost use Rattle.std.specs.Option.{option_to_list};
 ghost use Rattle.instant.specs.Order.{◌÷◌};
 ghost use Rattle.path.specs.declared.Side.TheVariants.{Lower};
 ghost use Rattle.path.specs.Letters.{d};
 ghost use Rattle.path.specs.Window.{window_start, window_end};
 ghost use Rattle.path.specs.inner.Tests.{opening, in_conflict};
-ghost use Rattle.path.specs.Instants.{as_list, path_instants};
+ghost use Rattle.path.specs.Instants.{path_instants};
 ghost use Rattle.path.specs.inner.Sizes.{InReach, search_start, search_end};
 ghost use Rattle.shown.specs.TimeShown.{approaches, searched, shown_from, time_shown};
 ghost use Rattle.shown.specs.inner.Steps.{Opened, StartTried, InstantsTried, shown_at, turning_of, lowest_point, Searchable, first_reached};
@@ -113,7 +114,7 @@ fn shown_at(asked: SideQuestion, t: Instant) -> Option<Instant>
 fn from_end(asked: SideQuestion) -> Option<Instant>
     requires opened { Opened asked.question.sensed }
     requires tried { InstantsTried asked.side asked.question.sensed }
-    ensures { result ≡ shown_from asked.side asked.question.sensed (as_list (window_end asked.question.sensed)) }
+    ensures { result ≡ shown_from asked.side asked.question.sensed (option_to_list (window_end asked.question.sensed)) }
 {
     match window_end(asked.question) {
         None => from_search(asked),
@@ -148,7 +149,7 @@ fn from_lowest(question: SizedQuestion, start: Instant) -> Option<Instant>
     requires starts { start ≡ window_start question.sensed }
     requires opened { Opened question.sensed }
     requires tried { InstantsTried Lower question.sensed }
-    ensures { result ≡ shown_from Lower question.sensed (as_list (turning_of question.sensed) ++ as_list (window_end question.sensed)) }
+    ensures { result ≡ shown_from Lower question.sensed (option_to_list (turning_of question.sensed) ++ option_to_list (window_end question.sensed)) }
 {
     let lower = SideQuestion {
         side: Side::Lower,
@@ -182,7 +183,7 @@ fn from_delay(question: SizedQuestion, start: Instant) -> Option<Instant>
     requires starts { start ≡ window_start question.sensed }
     requires opened { Opened question.sensed }
     requires tried { StartTried Lower question.sensed }
-    ensures { result ≡ shown_from Lower question.sensed (path_instants Lower question.sensed ++ as_list (window_end question.sensed)) }
+    ensures { result ≡ shown_from Lower question.sensed (path_instants Lower question.sensed ++ option_to_list (window_end question.sensed)) }
 {
     if conflict_at_delay(question, start) {
         return Some(Instant {

@@ -1,5 +1,6 @@
 -- `shown::time_shown` meets its contract: the window's first time has a conflict or not, and the rest is tried from d on, or at the window's end.
 use Rattle.std.specs.Prelude.{Option, Some}
+use Rattle.std.specs.Option.{option_to_list}
 use mathlib.Core.Path.{◌≡◌, sym, ap, ◌∙◌, subst}
 use mathlib.Core.Bool.{false}
 use mathlib.Core.List.{◌++◌}
@@ -8,7 +9,7 @@ use Rattle.path.specs.declared.SensedQuestion.{SensedQuestion}
 use Rattle.path.specs.declared.Side.{Side}
 use Rattle.path.specs.declared.Side.TheVariants.{Lower, Upper}
 use Rattle.path.specs.Window.{window_end}
-use Rattle.path.specs.Instants.{as_list, path_instants}
+use Rattle.path.specs.Instants.{path_instants}
 use Rattle.path.specs.inner.Tests.{opening, not_beyond}
 use Rattle.conflict.proofs.Fields.{side_reach}
 use Rattle.window.proofs.EndsInReach.{Near, window_start_near}
@@ -20,7 +21,7 @@ use Rattle.shown.proofs.time_shown.Goals as goal
 -- what is left where the window's first time has no conflict
 record Missed (side : Side) (s : SensedQuestion) (shown : Option Instant) : Type 0 where
   start : StartTried side s
-  rest : shown_from side s (path_instants side s ++ as_list (window_end s)) ≡ shown
+  rest : shown_from side s (path_instants side s ++ option_to_list (window_end s)) ≡ shown
 
 missed : (side x : Side) (s : SensedQuestion) (start : Instant) → side ≡ x → opening s ≡ Some start → not_beyond side s start.n start.m ≡ false → Missed x s (time_shown side s)
 missed side x s start is e n = subst (λ (x : Side). Missed x s (time_shown side s)) is (record { start = first_tried s start e side n; rest = first_miss s start e side n })
@@ -60,7 +61,7 @@ pub returns-in-Upper : goal.returns-in-Upper
 returns-in-Upper c =
     let s = c.args.asked.question.sensed in
     c.from_end.ensures
-    ∙ ap (λ (side : Side). shown_from side s (as_list (window_end s))) c.in-Upper.is
+    ∙ ap (λ (side : Side). shown_from side s (option_to_list (window_end s))) c.in-Upper.is
     ∙ (missed c.args.asked.side Upper s c.args.start c.in-Upper.is c.requires (sym c.not_beyond.ensures ∙ c.if-not_beyond.false)).rest
 
 pub returns-in-Upper-2 : goal.returns-in-Upper-2
