@@ -22,12 +22,13 @@ use Rattle.integers.proofs.Machine.{Reading, bounded, bounded_natural, bounded_w
 use Rattle.path.specs.declared.SensedQuestion.{SensedQuestion}
 use Rattle.path.specs.declared.Side.{Side}
 use Rattle.path.specs.declared.Side.TheVariants.{Lower, Upper}
+use Rattle.path.specs.declared.side_question.SideQuestion.{SideQuestion}
 use Rattle.path.specs.Letters.{k, wh, u, q, d, e, upper_q}
 use Rattle.path.specs.Paths.{delay_height, u_d, speed_reached, upper_target}
 use Rattle.path.specs.inner.Sizes.{max_speed_difference, max_speed_after_delay, Sizes, Sized, farthest, InReach}
 use Rattle.window.proofs.Fields.{read_n, read_m, size}
 use Rattle.conflict.specs.declared.AdviceRule.{AdviceRule}
-use Rattle.conflict.specs.inner.Divided.{height_not_beyond, bend, speed_after_delay, edge_height, rule_edge, rule_of, missing}
+use Rattle.conflict.specs.inner.Divided.{height_not_beyond, bend, speed_after_delay, edge_height, target_of, rule_edge, rule_of, missing}
 use Rattle.conflict.specs.inner.RuleSizes.{most_start, most_edge, RuleSizes, most_missing, most_bend}
 
 -- ---- a call's result, which fits and equals t; no bound is known
@@ -151,16 +152,6 @@ module _ (s : SensedQuestion) (z : Sizes s) where
       let start = bounded_absolute (delay_height (bend side s) (u s) (d s) 1) most_start (start_size side) in
       size (rule_edge side s) (search numbers depth 20) tt
 
-  -- a call's result is the definition's, and small
-  abbrev pub read_bend : (side : Side) {r : ℤ} → r ≡ bend side s → Reading r
-  read_bend side h = equal_to h (bounded_absolute (bend side s) max_delay_acceleration (bend_natural side))
-
-  abbrev pub read_speed_after_delay : (side : Side) {r : ℤ} → r ≡ speed_after_delay side s → Reading r
-  read_speed_after_delay side h = equal_to h (bounded_absolute (speed_after_delay side s) max_speed_after_delay (after_delay_size side))
-
-  abbrev pub read_edge_height : (side : Side) {r : ℤ} → r ≡ edge_height side s → Reading r
-  read_edge_height side h = equal_to h (bounded_absolute (edge_height side s) (max_height + max_half_height) (edge_height_size side))
-
   -- twice the height at the delay's end: the two speeds' sum times d
   start_is : (side : Side) → (u s +ℤ speed_after_delay side s) *ℤ pos (d s) ≡ delay_height (bend side s) (u s) (d s) 1
   unfolding delay_height
@@ -169,6 +160,22 @@ module _ (s : SensedQuestion) (z : Sizes s) where
 
   pub rule_edge_is : (side : Side) → pos 2 *ℤ edge_height side s -ℤ (u s +ℤ speed_after_delay side s) *ℤ pos (d s) ≡ rule_edge side s
   rule_edge_is side = ap (λ (start : ℤ). pos 2 *ℤ edge_height side s -ℤ start) (start_is side)
+
+-- a call's result is the definition's, and small
+module _ (asked : SideQuestion) {r : ℤ} where
+  abbrev pub read_bend : r ≡ bend asked.side asked.question.sensed → Reading r
+  read_bend h = equal_to h (bounded_absolute (bend asked.side asked.question.sensed) max_delay_acceleration (bend_natural asked.question.sensed asked.question.sizes asked.side))
+
+  abbrev pub read_speed_after_delay : r ≡ speed_after_delay asked.side asked.question.sensed → Reading r
+  read_speed_after_delay h = equal_to h (bounded_absolute (speed_after_delay asked.side asked.question.sensed) max_speed_after_delay (after_delay_size asked.question.sensed asked.question.sizes asked.side))
+
+  abbrev pub read_edge_height : r ≡ edge_height asked.side asked.question.sensed → Reading r
+  read_edge_height h = equal_to h (bounded_absolute (edge_height asked.side asked.question.sensed) (max_height + max_half_height) (edge_height_size asked.question.sensed asked.question.sizes asked.side))
+
+-- an upper rule's target is the larger of the advice's and the speed that the rule begins with
+pub upper_target_is : (side : Side) (s : SensedQuestion) → side ≡ Upper → maxℤ (upper_q s) (speed_after_delay side s) ≡ target_of side s
+upper_target_is Lower s is = cc
+upper_target_is Upper s is = refl
 
 pub upper_target_size : (s : SensedQuestion) → Sized Upper s → nat_abs (upper_target s) ≤ max_speed_after_delay
 upper_target_size s z =

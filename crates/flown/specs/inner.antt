@@ -1,4 +1,3 @@
 -- Definitions that only inner contracts use; an instructor need not read them.
 pub mod Places
-pub mod OneProof
 pub mod LeftPlaces

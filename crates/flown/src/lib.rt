@@ -4,17 +4,15 @@
 
 ghost use Rattle.std.specs.Prelude.{◌≡◌, true, ◌+◌, ◌<◌};
 ghost use Rattle.std.specs.Iterator.{YieldsFirstBy, item_count};
-ghost use Rattle.path.specs.inner.Sizes.{Sizes};
 ghost use Rattle.flight.specs.HandedIn.{flight_of, numbers_within};
 ghost use Rattle.flight.specs.FlightLimits.{stretch_within};
 ghost use Rattle.flight.specs.SensedFlight.{sensed_stretch, sensed_flight};
 ghost use Rattle.flight.specs.inner.Tests.{obeys_test, first_inside};
-ghost use Rattle.flown.specs.inner.OneProof.{sizes_prop};
 ghost use Rattle.flown.specs.inner.Places.{motion_after, BeginsAt, PlaceAt, seen};
 
 use advisory::Sense;
 use flight::Stretch;
-use path::SensedQuestion;
+use path::SizedQuestion;
 use second::{Motion, Second, crosses_in_second, inside_at, obeys_in_second};
 use sensed::sign_of;
 use stretches::Stretches;
@@ -22,10 +20,9 @@ use stretches::Stretches;
 // A flight within its limits, and the question of which it is judged.
 #[derive(Clone, Copy)]
 pub struct Flight<'a> {
-    pub question: SensedQuestion,
+    pub question: SizedQuestion,
     pub sense: Sense,
     pub numbers: &'a [i64],
-    pub ghost sizes: { Sizes question } by { sizes_prop question },
     pub ghost within: { numbers_within numbers.now ≡ true },
 }
 
@@ -63,8 +60,8 @@ fn motion_after(second: Second) -> Motion
 impl<'a> Flight<'a> {
     // Where the first of the stretches that are left begins, or the flight's end, which has no acceleration.
     fn begin(self, n: u64, motion: Motion, left: Stretches<'a>) -> Place<'a>
-        requires { BeginsAt self.question self.sense self.numbers.now n motion left.0.now }
-        ensures { (result.second.n ≡ n) × PlaceAt self.entry.question self.entry.sense self.entry.numbers.now result }
+        requires { BeginsAt self.question.sensed self.sense self.numbers.now n motion left.0.now }
+        ensures { (result.second.n ≡ n) × PlaceAt self.entry.question.sensed self.entry.sense self.entry.numbers.now result }
     {
         let mut later = left;
         let stretch = match later.next() {
@@ -86,11 +83,11 @@ impl<'a> Flight<'a> {
     }
 
     fn start(self) -> Place<'a>
-        ensures { (result.second.n ≡ 0) × PlaceAt self.entry.question self.entry.sense self.entry.numbers.now result }
+        ensures { (result.second.n ≡ 0) × PlaceAt self.entry.question.sensed self.entry.sense self.entry.numbers.now result }
     {
         let motion = Motion {
             height: 0,
-            speed: self.question.speed,
+            speed: self.question.sensed.speed,
             acceleration: 0,
         };
         self.begin(0, motion, Stretches(self.numbers))
@@ -98,9 +95,9 @@ impl<'a> Flight<'a> {
 
     // A second later.
     fn after(self, place: Place<'a>) -> Place<'a>
-        requires at { PlaceAt self.question self.sense self.numbers.now place }
+        requires at { PlaceAt self.question.sensed self.sense self.numbers.now place }
         requires going { 0 < place.left }
-        ensures { (result.second.n ≡ place.entry.second.n + 1) × PlaceAt self.entry.question self.entry.sense self.entry.numbers.now result }
+        ensures { (result.second.n ≡ place.entry.second.n + 1) × PlaceAt self.entry.question.sensed self.entry.sense self.entry.numbers.now result }
     {
         let n = place.second.n + 1;
         let motion = motion_after(place.second);
@@ -121,7 +118,7 @@ struct Places<'a> {
     flight: Flight<'a>,
     place: Place<'a>,
     ended: bool,
-    ghost at: { PlaceAt flight.question flight.sense flight.numbers.now place },
+    ghost at: { PlaceAt flight.question.sensed flight.sense flight.numbers.now place },
 }
 
 impl<'a> Iterator for Places<'a> {
@@ -152,7 +149,7 @@ impl<'a> Flight<'a> {
     ghost use Rattle.flown.specs.inner.LeftPlaces.{left_places, to_the_end};
 
     fn places(self) -> Places<'a>
-        ensures { left_places result ≡ to_the_end self.entry.question (flown self.entry.sense self.entry.numbers.now) 0 }
+        ensures { left_places result ≡ to_the_end self.entry.question.sensed (flown self.entry.sense self.entry.numbers.now) 0 }
     {
         Places {
             flight: self,
@@ -164,14 +161,14 @@ impl<'a> Flight<'a> {
 
 // Does the flight obey? Each of its seconds must; its last instant is tested by neither rule.
 pub fn flight_obeys(flight: Flight<'_>) -> bool
-    ensures { result ≡ obeys_test flight.entry.question (sensed_flight flight.entry.sense (flight_of flight.entry.numbers.now)) }
+    ensures { result ≡ obeys_test flight.entry.question.sensed (sensed_flight flight.entry.sense (flight_of flight.entry.numbers.now)) }
 {
     flight.places().all(|place| place.left == 0 || obeys_in_second(flight.question, place.second))
 }
 
 // The first second with a time inside the puck; of the flight's end the instant alone.
 pub fn first_inside(flight: Flight<'_>) -> Option<u64>
-    ensures { result ≡ first_inside flight.entry.question (sensed_flight flight.entry.sense (flight_of flight.entry.numbers.now)) }
+    ensures { result ≡ first_inside flight.entry.question.sensed (sensed_flight flight.entry.sense (flight_of flight.entry.numbers.now)) }
 {
     flight
         .places()

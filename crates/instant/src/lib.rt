@@ -90,6 +90,7 @@ pub fn lowest_terms(n: u64, m: u64) -> Time
     let numerator = left >> twos;
     let denominator = m >> twos;
     let common = common_divisor(denominator, numerator);
+    // Nothing is divided by 1: a division is slow.
     if common == 1 {
         return Time {
             seconds,

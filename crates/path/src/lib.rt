@@ -1,6 +1,12 @@
 // The question that the paths answer, with heights and speeds in the advisory's sense. `specs/Letters.antt` gives document 01's letter for each field.
 #![tactic(auto)]
 
+mod side_question;
+mod sized_question;
+
+pub use side_question::SideQuestion;
+pub use sized_question::SizedQuestion;
+
 #[derive(Clone, Copy)]
 pub struct SensedQuestion {
     // Horizontally: the distance ahead, negative where the intruder has passed, and the speed at which it shrinks.

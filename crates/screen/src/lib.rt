@@ -2,14 +2,13 @@
 #![tactic(auto)]
 
 ghost use Rattle.std.specs.Prelude.{◌≡◌, ◌≤◌, IfOk, IfErr, Err};
-ghost use Rattle.path.specs.inner.Sizes.{Sizes};
 ghost use Rattle.pieces.specs.Pieces.{last_second};
 ghost use Rattle.pieces.specs.inner.PieceSizes.{PieceSizes};
 ghost use Rattle.screen.specs.Drawings.{float_piece, drawn_piece, pieces_of, content, drawn_pieces, screen_drawing};
 ghost use Rattle.screen.specs.Points.{evaluated, point_at, point_refusal, screen_point};
 
 use instant::{Time, lowest_terms};
-use path::SensedQuestion;
+use path::SizedQuestion;
 use pieces::{WholePiece, arc_piece, delay_piece, last_piece, missing_speed, piece_at};
 use question::{AcceptedQuestion, Encounter, Question, Refusal, Settings};
 use refusals::accept;
@@ -71,19 +70,18 @@ fn drawn_piece(p: WholePiece) -> DrawnPiece
 }
 
 // The pieces that have a length.
-fn drawing_of(s: SensedQuestion) -> Drawing
-    requires { Sizes s }
-    ensures { pieces_of result ≡ drawn_pieces s }
+fn drawing_of(s: SizedQuestion) -> Drawing
+    ensures { pieces_of result ≡ drawn_pieces s.sensed }
 {
     let last = drawn_piece(last_piece(s));
     if missing_speed(s) == 0 {
-        if s.delay == 0 {
+        if s.sensed.delay == 0 {
             return Drawing::One(last);
         }
         return Drawing::Two(drawn_piece(delay_piece(s)), last);
     }
     let arc = drawn_piece(arc_piece(s));
-    if s.delay == 0 {
+    if s.sensed.delay == 0 {
         return Drawing::Two(arc, last);
     }
     Drawing::Three(drawn_piece(delay_piece(s)), arc, last)
@@ -112,10 +110,9 @@ fn evaluate(piece: Piece, t: f64) -> f64
     }
 }
 
-fn point_at(s: SensedQuestion, second: u64) -> ScreenPoint
-    requires sizes { Sizes s }
-    requires second_le_last_second { second ≤ last_second }
-    ensures { result ≡ point_at s second }
+fn point_at(s: SizedQuestion, second: u64) -> ScreenPoint
+    requires { second ≤ last_second }
+    ensures { result ≡ point_at s.sensed second }
 {
     let piece = float_piece(piece_at(s, second));
     let time = second as f64;

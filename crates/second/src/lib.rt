@@ -8,7 +8,6 @@ ghost use Rattle.std.specs.Prelude.{◌≡◌, ◌≤◌, pos, ◌+ℤ◌, ◌-�
 ghost use Rattle.limits.specs.Limits.{max_height, max_closing_speed, max_half_height, max_flight_seconds};
 ghost use Rattle.path.specs.Letters.{c, p, q, a};
 ghost use Rattle.path.specs.Window.{distance_at};
-ghost use Rattle.path.specs.inner.Sizes.{Sizes};
 ghost use Rattle.flight.specs.inner.Parts.{Proper, DivisorWithin, part_up_to, near_part};
 ghost use Rattle.flight.specs.inner.Tests.{obeys_advice};
 ghost use Rattle.flight.specs.inner.Clamped.{most_gained, clamped};
@@ -16,8 +15,9 @@ ghost use Rattle.second.specs.inner.SecondTests.{obeys_in, crosses_in, inside_at
 ghost use Rattle.second.specs.inner.SecondSizes.{MotionSizes};
 
 use flight::Part;
+use instant::Instant;
 use limits::{MAX_FLIGHT_ACCELERATION, MAX_FLIGHT_SECONDS, MAX_SPEED};
-use path::SensedQuestion;
+use path::SizedQuestion;
 use window::{distance_at, positive_part};
 
 mod approach;
@@ -42,36 +42,33 @@ pub struct Second {
 }
 
 // From the delay's end on: the acceleration, or the speed at both ends of the second.
-fn obeys_advice(s: SensedQuestion, second: Second) -> bool
-    requires { Sizes s }
-    ensures { result ≡ obeys_advice (a s) (q s) second.motion.acceleration second.motion.speed (second.motion.speed +ℤ second.motion.acceleration) }
+fn obeys_advice(s: SizedQuestion, second: Second) -> bool
+    ensures { result ≡ obeys_advice (a s.sensed) (q s.sensed) second.motion.acceleration second.motion.speed (second.motion.speed +ℤ second.motion.acceleration) }
 {
-    let a = s.strength as i64;
-    let q = s.target;
+    let a = s.sensed.strength as i64;
+    let q = s.sensed.target;
     let v = second.motion.speed;
     let g = second.motion.acceleration;
     (a <= g) | ((q <= v) & (q <= v + g))
 }
 
 // Does the second obey? The delay is whole seconds, so one rule is in force.
-pub fn obeys_in_second(s: SensedQuestion, second: Second) -> bool
-    requires { Sizes s }
-    ensures { result ≡ obeys_in s second.n second.motion }
+pub fn obeys_in_second(s: SizedQuestion, second: Second) -> bool
+    ensures { result ≡ obeys_in s.sensed second.n second.motion }
 {
-    if second.n < s.delay {
-        return second.motion.acceleration.unsigned_abs() <= s.delay_acceleration;
+    if second.n < s.sensed.delay {
+        return second.motion.acceleration.unsigned_abs() <= s.sensed.delay_acceleration;
     }
     obeys_advice(s, second)
 }
 
 // Is the flight inside the puck, edges included, at n itself?
-pub fn inside_at(s: SensedQuestion, second: Second) -> bool
-    requires { Sizes s }
-    ensures { result ≡ inside_at_start s second.n second.motion }
+pub fn inside_at(s: SizedQuestion, second: Second) -> bool
+    ensures { result ≡ inside_at_start s.sensed second.n second.motion }
 {
-    let ahead = distance_at(s, second.n, 1);
-    let above = 2 * s.level - second.motion.height;
-    (ahead.unsigned_abs() <= s.radius) & (above.unsigned_abs() <= 2 * s.half_height)
+    let ahead = distance_at(s, Instant { n: second.n, m: 1 });
+    let above = 2 * s.sensed.level - second.motion.height;
+    (ahead.unsigned_abs() <= s.sensed.radius) & (above.unsigned_abs() <= 2 * s.sensed.half_height)
 }
 
 // The part of the second from x/c on, up to end/c.
@@ -89,21 +86,20 @@ fn part_up_to(c: u64, x: u64, end: i64) -> Part
 }
 
 // The part of the second in which the intruder is horizontally within the puck.
-fn near_part(s: SensedQuestion, second: Second) -> Part
-    requires { Sizes s }
-    ensures value { result ≡ near_part (c s) (p s) (distance_at s second.n 1) }
+fn near_part(s: SizedQuestion, second: Second) -> Part
+    ensures value { result ≡ near_part (c s.sensed) (p s.sensed) (distance_at s.sensed second.n 1) }
     ensures proper { Proper result }
     ensures divisor_within { DivisorWithin max_closing_speed result }
 {
-    let ahead = distance_at(s, second.n, 1);
-    let c = s.closing_speed;
+    let ahead = distance_at(s, Instant { n: second.n, m: 1 });
+    let c = s.sensed.closing_speed;
     if c == 0 {
-        if ahead.unsigned_abs() <= s.radius {
+        if ahead.unsigned_abs() <= s.sensed.radius {
             return Part::From(0, 1);
         }
         return Part::Nowhere;
     }
-    let p = s.radius as i64;
+    let p = s.sensed.radius as i64;
     part_up_to(c, positive_part(ahead - p), ahead + p)
 }
 
@@ -145,12 +141,11 @@ fn turned_over(motion: Motion) -> Motion
 }
 
 // Is the flight inside the puck at a rational time from n on, before n + 1? It comes up to the band, and, everything turned over, up to it too.
-pub fn crosses_in_second(s: SensedQuestion, second: Second) -> bool
-    requires { Sizes s }
-    ensures { result ≡ crosses_in s second.n second.motion }
+pub fn crosses_in_second(s: SizedQuestion, second: Second) -> bool
+    ensures { result ≡ crosses_in s.sensed second.n second.motion }
 {
     let part = near_part(s, second);
-    let up = upwards(s.level, s.half_height, second.motion);
-    let down = upwards(-s.level, s.half_height, turned_over(second.motion));
+    let up = upwards(s.sensed.level, s.sensed.half_height, second.motion);
+    let down = upwards(-s.sensed.level, s.sensed.half_height, turned_over(second.motion));
     up.reaches(part) & down.reaches(part)
 }

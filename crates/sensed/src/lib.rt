@@ -7,7 +7,7 @@ ghost use Rattle.sensed.specs.Sensed.{limit_of, sensed_motion, sensed_question};
 
 use advisory::Sense;
 use limits::NO_LIMIT;
-use path::SensedQuestion;
+use path::{SensedQuestion, SizedQuestion};
 use question::{AcceptedQuestion, sense_of};
 use window::positive_part;
 
@@ -56,7 +56,7 @@ fn sensed_motion(asked: AcceptedQuestion) -> Motion
 }
 
 // An accepted question, with heights and speeds in its sense.
-pub fn sensed_question(asked: AcceptedQuestion) -> SensedQuestion
+fn in_sense(asked: AcceptedQuestion) -> SensedQuestion
     ensures { result ≡ sensed_question asked.encounter asked.settings asked.question }
 {
     let motion = sensed_motion(asked);
@@ -77,5 +77,14 @@ pub fn sensed_question(asked: AcceptedQuestion) -> SensedQuestion
         upper_target: motion.upper_target,
         upper_strength: question.upper_strength as u64,
         limit: limit_of(question.limit),
+    }
+}
+
+// The same, which the limits keep small.
+pub fn sensed_question(asked: AcceptedQuestion) -> SizedQuestion
+    ensures { result.sensed ≡ sensed_question asked.encounter asked.settings asked.question }
+{
+    SizedQuestion {
+        sensed: in_sense(asked),
     }
 }

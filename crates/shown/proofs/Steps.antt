@@ -1,6 +1,7 @@
 -- The steps of the code: an instant with a conflict is shown, one without leaves the rest; a window with an end is not searched, and one without an end
 -- holds every whole second where it holds 0. Assumes nothing.
 use Rattle.std.specs.Prelude.{None, Option, Some}
+use Rattle.std.specs.Option.{is_none, option_to_list}
 use mathlib.Core.Path.{◌≡◌, refl, sym, ap, ap₂, ◌∙◌, subst}
 use mathlib.Core.Bool.{Bool, true, false, ◌&&◌}
 use mathlib.Core.List.{List, [], ◌∷◌}
@@ -18,13 +19,13 @@ use Rattle.path.specs.declared.Side.TheVariants.{Lower, Upper}
 use Rattle.path.specs.Window.{window_end}
 use Rattle.path.specs.inner.Tests.{in_window, not_beyond, in_conflict}
 use Rattle.path.specs.Conflict.{NotBeyond}
-use Rattle.path.specs.Instants.{Among, as_list}
-use Rattle.path.specs.inner.Sizes.{Sized, farthest, search_start, search_end}
+use Rattle.path.specs.Instants.{Among}
+use Rattle.path.specs.inner.Sizes.{Sized, search_start, search_end}
 use Rattle.path.proofs.Decisions.{window_decided, not_beyond_decided}
 use Rattle.path.proofs.WindowEnds.{between_window, endless_start_zero, endless_start}
 use Rattle.path.proofs.SideProfiles.{Approaches, reaches_end}
 use Rattle.path.proofs.WholeSeconds.{none_before}
-use Rattle.shown.specs.TimeShown.{first_of, first_second, or_else, is_never, approaches, searches, seconds_tried, searched, shown_from}
+use Rattle.shown.specs.TimeShown.{first_of, first_second, or_else, approaches, searches, seconds_tried, searched, shown_from}
 use Rattle.shown.specs.inner.Steps.{StartTried, InstantsTried, Searchable, first_reached}
 
 -- ---- tests as equations
@@ -92,13 +93,13 @@ module _ (side : Side) (s : SensedQuestion) where
       go true q = absurd (no true q tt)
       go false q = refl
 
-  pub ended : (t : Instant) → window_end s ≡ Some t → ◌≡◌ {A = Option Instant} None (shown_from side s [])
-  ended t e = no_search (ap (λ (m : Option Instant). is_never m && (in_window s 0 1 && approaches side s)) e) ∙ only_search
+  pub ended : (t : Instant) → window_end s ≡ Some t → None ≡ shown_from side s []
+  ended t e = no_search (ap (λ (m : Option Instant). is_none m && (in_window s 0 1 && approaches side s)) e) ∙ only_search
 
   -- where the window has no end
   module _ (endless : window_end s ≡ None) where
     pub searches_is : searches side s ≡ (in_window s 0 1 && approaches side s)
-    searches_is = ap (λ (m : Option Instant). is_never m && (in_window s 0 1 && approaches side s)) endless
+    searches_is = ap (λ (m : Option Instant). is_none m && (in_window s 0 1 && approaches side s)) endless
 
     pub departing : in_window s 0 1 ≡ true → approaches side s ≡ false → None ≡ searched side s
     departing w e = no_search (searches_is ∙ ap₂ ◌&&◌ w e)
@@ -107,7 +108,7 @@ module _ (side : Side) (s : SensedQuestion) where
     all_in : in_window s 0 1 ≡ true → (j : ℕ) → in_window s j 1 ≡ true
     all_in w j = true_of (in_window s j 1) ((window_decided s j 1).1
         (between_window s 0 1 j 1 (omega arith) ((window_decided s 0 1).0 (yes (in_window s 0 1) w))
-        (record { after = endless_start s endless j; before = λ t i. absurd (subst (λ (m : Option Instant). Among t (as_list m)) endless i) })))
+        (record { after = endless_start s endless j; before = λ t i. absurd (subst (λ (m : Option Instant). Among t (option_to_list m)) endless i) })))
 
     at_second : in_window s 0 1 ≡ true → (j : ℕ) → not_beyond side s j 1 ≡ in_conflict side s j 1
     at_second w j = inside j 1 (all_in w j)
@@ -176,11 +177,6 @@ first_is test (suc f) i r l h n y = ⊎_elim
 pub enough : (side : Side) (s : SensedQuestion) → Sized side s → search_end side s < seconds_tried side
 enough Lower s z = omega (arith, z.d_hi)
 enough Upper s z = omega arith
-
--- the seconds of the search are in reach of the comparisons
-pub search_in_reach : (side : Side) (s : SensedQuestion) → Sized side s → search_end side s ≤ farthest side
-search_in_reach Lower s z = omega (arith, z.d_hi)
-search_in_reach Upper s z = omega arith
 
 -- where lo and hi meet, hi is the first
 pub bracket_found : (side : Side) (s : SensedQuestion) → Sized side s → Searchable side s → (lo hi : ℕ) → Bracket side s lo hi → hi ≤ lo + 1 → first_reached side s ≡ Some (hi ÷ 1)

@@ -1,6 +1,7 @@
 -- The time that the earlier upper path shows, by the same rule, and that with delay 0 it is the time shown: the tests are equal at every instant and second.
 -- Assumes nothing.
 use Rattle.std.specs.Prelude.{None, Option, Some}
+use Rattle.std.specs.Option.{is_none}
 use mathlib.Core.Path.{◌≡◌, refl, ap, ap₂}
 use mathlib.Core.Bool.{Bool, true, false, ◌&&◌}
 use mathlib.Core.List.{List, [], ◌∷◌}
@@ -17,13 +18,13 @@ use Rattle.path.specs.Window.{window_end}
 use Rattle.path.specs.Instants.{instants}
 use Rattle.path.specs.inner.Tests.{in_window, in_conflict}
 use Rattle.path.proofs.WithoutDelay.{earlier_target, earlier_conflict, target_without_delay, conflict_without_delay}
-use Rattle.shown.specs.TimeShown.{first_of, first_second, or_else, is_never, seconds_tried, searched, shown_from, time_shown}
+use Rattle.shown.specs.TimeShown.{first_of, first_second, or_else, seconds_tried, searched, shown_from, time_shown}
 
 -- the rule for a test of the instants, in which the path's target is q
 abbrev shown_by : SensedQuestion → (ℕ → ℕ → Bool) → ℤ → ℕ → Option Instant
 shown_by s test q f =
     or_else (first_of (λ t. test t.n t.m) (instants Upper s))
-    (elim (is_never (window_end s) && (in_window s 0 1 && lt_z (pos 0) q)) [ true ↦ first_second (λ j. test j 1) f 0 | false ↦ None ])
+    (elim (is_none (window_end s) && (in_window s 0 1 && lt_z (pos 0) q)) [ true ↦ first_second (λ j. test j 1) f 0 | false ↦ None ])
 
 -- "Upper: Window start, else window end, else the first whole second", by the earlier path
 unfoldable pub earlier_shown : SensedQuestion → Option Instant
@@ -44,7 +45,7 @@ shown_same s none f =
     ap₂ or_else
     (first_same (λ t. in_conflict Upper s t.n t.m) (λ t. earlier_conflict s t.n t.m) (λ t. conflict_without_delay s none t.n t.m) (instants Upper s))
     (ap₂ (λ (b : Bool) (m : Option Instant). elim b as (λ _. (Option Instant)) [ true ↦ m | false ↦ None ])
-    (ap (λ (q : ℤ). is_never (window_end s) && (in_window s 0 1 && lt_z (pos 0) q)) (target_without_delay s none))
+    (ap (λ (q : ℤ). is_none (window_end s) && (in_window s 0 1 && lt_z (pos 0) q)) (target_without_delay s none))
     (second_same (λ j. in_conflict Upper s j 1) (λ j. earlier_conflict s j 1) (λ j. conflict_without_delay s none j 1) f 0))
 
 pub shown_without_delay : (s : SensedQuestion) → d s ≡ 0 → time_shown Upper s ≡ earlier_shown s

@@ -1,6 +1,7 @@
 -- The time shown, in a form that computes. What is believed is the rule, in `TimeRule`; that this form is the moment that the rule picks is proved:
 -- `rule_picks`, in `proofs/RulePicks.antt`.
 use Rattle.std.specs.Prelude.{Bool, true, false, ◌&&◌, List, [], ◌∷◌, ℕ, zero, suc, ◌^◌, pos, None, Option, Some}
+use Rattle.std.specs.Option.{is_none}
 use Rattle.std.specs.Int.Signed.{lt_z}
 use Rattle.instant.specs.declared.Instant.{Instant}
 use Rattle.instant.specs.Order.{◌÷◌}
@@ -27,10 +28,6 @@ abbrev pub or_else : Option Instant → Option Instant → Option Instant
 or_else (Some t) other = Some t
 or_else None other = other
 
-abbrev pub is_never : Option Instant → Bool
-is_never (Some t) = false
-is_never None = true
-
 -- The path goes towards the intruder for ever: lower, q < 0; upper, its target is above 0
 abbrev pub approaches : Side → SensedQuestion → Bool
 approaches Lower s = lt_z (q s) (pos 0)
@@ -39,7 +36,7 @@ approaches Upper s = lt_z (pos 0) (upper_target s)
 -- Whole seconds are tried only where the window has no end, holds 0, as then it holds every time, and where the path goes towards the intruder for ever:
 -- else no second has a conflict where the instants have none
 abbrev pub searches : Side → SensedQuestion → Bool
-searches side s = is_never (window_end s) && (in_window s 0 1 && approaches side s)
+searches side s = is_none (window_end s) && (in_window s 0 1 && approaches side s)
 
 -- seconds enough that such a path has met the intruder, whatever the accepted question
 abbrev pub seconds_tried : Side → ℕ

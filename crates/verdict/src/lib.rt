@@ -2,15 +2,14 @@
 #![tactic(auto)]
 
 ghost use Rattle.std.specs.Prelude.{◌≡◌, true, None, Ok, Some};
-ghost use Rattle.path.specs.declared.Side.TheVariants.{Lower, Upper};
-ghost use Rattle.path.specs.inner.Sizes.{Sized};
+ghost use Rattle.path.specs.inner.Sizes.{UpperSizes};
 ghost use Rattle.path.specs.inner.Tests.{opening};
 ghost use Rattle.question.specs.Refusals.{two_sided};
 ghost use Rattle.sensed.specs.Sensed.{sensed_question};
 ghost use Rattle.verdict.specs.Verdicts.{one_sided_verdict, two_sided_verdict, verdict_of, verdict};
 
 use instant::{Instant, Time, lowest_terms};
-use path::{SensedQuestion, Side};
+use path::{Side, SideQuestion, SizedQuestion};
 use question::{AcceptedQuestion, Question, two_sided};
 use sensed::sensed_question;
 use shown::time_shown;
@@ -63,15 +62,26 @@ fn empty_verdict(question: Question) -> Verdict
 }
 
 // The verdict where the window opens at a start.
-fn open_verdict(question: Question, s: SensedQuestion, start: Instant) -> Verdict
-    requires sized { Sized Lower s }
-    requires sized_2 { two_sided question ≡ true → Sized Upper s }
-    requires s_value { opening s ≡ Some start }
-    ensures { result ≡ verdict question s }
+fn open_verdict(question: Question, s: SizedQuestion, start: Instant) -> Verdict
+    requires upper_sizes { two_sided question ≡ true → UpperSizes s.sensed }
+    requires opens { opening s.sensed ≡ Some start }
+    ensures { result ≡ verdict question s.sensed }
 {
-    let lower = time_shown(Side::Lower, s, start);
+    let lower = time_shown(
+        SideQuestion {
+            side: Side::Lower,
+            question: s,
+        },
+        start,
+    );
     if two_sided(question) {
-        let upper = time_shown(Side::Upper, s, start);
+        let upper = time_shown(
+            SideQuestion {
+                side: Side::Upper,
+                question: s,
+            },
+            start,
+        );
         return two_sided_verdict(lower, upper);
     }
     one_sided_verdict(lower)

@@ -1,4 +1,4 @@
-// The window at an instant n/m, its first time and its end: exact 64-bit code for the definitions of `path`.
+// The window at an instant, its first time and its end: exact 64-bit code for the definitions of `path`.
 // Locals bear document 01's letters (`path`, specs/Letters.antt).
 #![tactic(auto)]
 
@@ -8,10 +8,10 @@ ghost use Rattle.path.specs.declared.Side.TheVariants.{Lower};
 ghost use Rattle.path.specs.Letters.{r, c, p};
 ghost use Rattle.path.specs.Window.{distance_at, exit_of, window_end};
 ghost use Rattle.path.specs.inner.Tests.{in_time, in_window, opening};
-ghost use Rattle.path.specs.inner.Sizes.{LimitSize, Sizes, InReach};
+ghost use Rattle.path.specs.inner.Sizes.{LimitSize, InReach};
 
 use instant::{Instant, earlier};
-use path::SensedQuestion;
+use path::SizedQuestion;
 
 // max(0, x)
 pub fn positive_part(x: i64) -> u64
@@ -27,47 +27,46 @@ pub fn absolute(x: i64) -> u64
     x.unsigned_abs()
 }
 
-// Is n/m no later than the limit?
-fn in_time(limit: Option<u64>, n: u64, m: u64) -> bool
+// Is the instant no later than the limit?
+fn in_time(limit: Option<u64>, t: Instant) -> bool
     requires limit_size { LimitSize limit }
-    requires in_reach { InReach Lower n m }
-    ensures { result ≡ in_time limit n m }
+    requires in_reach { InReach Lower t.n t.m }
+    ensures { result ≡ in_time limit t.n t.m }
 {
     match limit {
         None => true,
-        Some(last) => n <= last * m,
+        Some(last) => t.n <= last * t.m,
     }
 }
 
-// r − c·t, times m.
-pub fn distance_at(s: SensedQuestion, n: u64, m: u64) -> i64
-    requires sizes { Sizes s }
-    requires in_reach { InReach Lower n m }
-    ensures { result ≡ distance_at s n m }
+// r − c·t, times the instant's divisor.
+pub fn distance_at(question: SizedQuestion, t: Instant) -> i64
+    requires { InReach Lower t.n t.m }
+    ensures { result ≡ distance_at question.sensed t.n t.m }
 {
-    let r = s.distance;
-    let c = s.closing_speed as i64;
-    let n = n as i64;
-    let m = m as i64;
+    let r = question.sensed.distance;
+    let c = question.sensed.closing_speed as i64;
+    let n = t.n as i64;
+    let m = t.m as i64;
     r * m - c * n
 }
 
-// Is n/m in the window? Its edges count, and so does the limit itself.
+// Is the instant in the window? Its edges count, and so does the limit itself.
 #[tactic(auto, unfolding(path::specs::inner::Tests::in_window))]
-pub fn in_window(s: SensedQuestion, n: u64, m: u64) -> bool
-    requires sizes { Sizes s }
-    requires in_reach { InReach Lower n m }
-    ensures { result ≡ in_window s n m }
+pub fn in_window(question: SizedQuestion, t: Instant) -> bool
+    requires { InReach Lower t.n t.m }
+    ensures { result ≡ in_window question.sensed t.n t.m }
 {
-    let ahead = distance_at(s, n, m);
-    absolute(ahead) <= s.radius * m && in_time(s.limit, n, m)
+    let s = question.sensed;
+    let ahead = distance_at(question, t);
+    absolute(ahead) <= s.radius * t.m && in_time(s.limit, t)
 }
 
 // The window's first time: none where the intruder has passed, stands still outside the puck's radius, or comes there after the limit.
-pub fn opening(s: SensedQuestion) -> Option<Instant>
-    requires { Sizes s }
-    ensures { result ≡ opening s }
+pub fn opening(question: SizedQuestion) -> Option<Instant>
+    ensures { result ≡ opening question.sensed }
 {
+    let s = question.sensed;
     let r = s.distance;
     let p = s.radius as i64;
     if r + p < 0 {
@@ -78,14 +77,15 @@ pub fn opening(s: SensedQuestion) -> Option<Instant>
     if c == 0 {
         return (ahead == 0).then_some(Instant { n: 0, m: 1 });
     }
-    in_time(s.limit, ahead, c).then_some(Instant { n: ahead, m: c })
+    let start = Instant { n: ahead, m: c };
+    in_time(s.limit, start).then_some(start)
 }
 
 // Where the intruder leaves the puck's radius, for a closing speed above 0.
-fn window_exit(s: SensedQuestion) -> Instant
-    requires { Sizes s }
-    ensures { result ≡ exit_of (c s) (r s) (p s) }
+fn window_exit(question: SizedQuestion) -> Instant
+    ensures { result ≡ exit_of (c question.sensed) (r question.sensed) (p question.sensed) }
 {
+    let s = question.sensed;
     let r = s.distance;
     let p = s.radius as i64;
     Instant {
@@ -95,14 +95,13 @@ fn window_exit(s: SensedQuestion) -> Instant
 }
 
 // Its end: its exit or the limit, whichever is earlier, or none.
-pub fn window_end(s: SensedQuestion) -> Option<Instant>
-    requires { Sizes s }
-    ensures { result ≡ window_end s }
+pub fn window_end(question: SizedQuestion) -> Option<Instant>
+    ensures { result ≡ window_end question.sensed }
 {
-    match (s.closing_speed, s.limit) {
+    match (question.sensed.closing_speed, question.sensed.limit) {
         (0, None) => None,
         (0, Some(last)) => Some(Instant { n: last, m: 1 }),
-        (_, None) => Some(window_exit(s)),
-        (_, Some(last)) => Some(earlier(window_exit(s), Instant { n: last, m: 1 })),
+        (_, None) => Some(window_exit(question)),
+        (_, Some(last)) => Some(earlier(window_exit(question), Instant { n: last, m: 1 })),
     }
 }

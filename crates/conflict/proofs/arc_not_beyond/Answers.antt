@@ -17,7 +17,7 @@ overflow_add-arc c =
     let z = c.requires.rule_sizes in
     let h = c.requires.in_reach in
     let l = c.requires.before_straight in
-    let bend = bounded_word (c.args.rule.strength * c.args.n * c.args.n) most_bend c.requires.before_straight in
+    let bend = bounded_word (c.args.rule.strength * c.args.since.n * c.args.since.n) most_bend c.requires.before_straight in
     fits (search numbers depth 20) tt
 
 pub overflow_mul-edge-2 : goal.overflow_mul-edge-2
@@ -32,7 +32,7 @@ returns-in-Lower c =
     let z = c.requires.rule_sizes in
     let h = c.requires.in_reach in
     let l = c.requires.before_straight in
-    let bend = bounded_word (c.args.rule.strength * c.args.n * c.args.n) most_bend c.requires.before_straight in
+    let bend = bounded_word (c.args.rule.strength * c.args.since.n * c.args.since.n) most_bend c.requires.before_straight in
     rw c.in-Lower.is (plain (search numbers depth 20) tt)
 
 pub returns-in-Upper : goal.returns-in-Upper
@@ -40,5 +40,5 @@ returns-in-Upper c =
     let z = c.requires.rule_sizes in
     let h = c.requires.in_reach in
     let l = c.requires.before_straight in
-    let bend = bounded_word (c.args.rule.strength * c.args.n * c.args.n) most_bend c.requires.before_straight in
+    let bend = bounded_word (c.args.rule.strength * c.args.since.n * c.args.since.n) most_bend c.requires.before_straight in
     rw c.in-Upper.is (plain (search numbers depth 20) tt)

@@ -11,15 +11,15 @@ arc_not_beyond-requires-clause-before_straight c =
     let z = c.requires.rule_sizes in
     let g = c.requires.missing_within in
     let h = c.requires.in_reach in
-    bend_size c.args.side _ _ c.args.n c.args.m g h (rw c.missing_speed-gap.ensures at c.if-rule-n.true)
+    bend_size c.args.side _ _ c.args.since.n c.args.since.m g h (rw c.missing_speed-gap.ensures at c.if-rule-since.true)
 
-pub returns-then-rule-n : goal.returns-then-rule-n
-returns-then-rule-n c =
+pub returns-then-rule-since : goal.returns-then-rule-since
+returns-then-rule-since c =
     c.arc_not_beyond.ensures
-    ∙ arc_divided c.args.side c.args.rule c.args.n c.args.m c.requires.rule_sizes.strength_lo (rw c.missing_speed-gap.ensures at c.if-rule-n.true)
+    ∙ arc_divided c.args.side c.args.rule c.args.since.n c.args.since.m c.requires.rule_sizes.strength_lo (rw c.missing_speed-gap.ensures at c.if-rule-since.true)
 
 pub returns : goal.returns
 returns c =
-    ◌∙◌ {b = straight_not_beyond c.args.side c.args.rule c.args.n c.args.m}
+    ◌∙◌ {b = straight_not_beyond c.args.side c.args.rule c.args.since.n c.args.since.m}
     c.straight_not_beyond.ensures
-    (straight_divided c.args.side c.args.rule c.args.n c.args.m c.requires.in_reach.m_lo (rw c.missing_speed-gap.ensures at c.if-rule-n.false))
+    (straight_divided c.args.side c.args.rule c.args.since.n c.args.since.m c.requires.in_reach.m_lo (rw c.missing_speed-gap.ensures at c.if-rule-since.false))

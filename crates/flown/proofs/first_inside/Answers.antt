@@ -16,7 +16,7 @@ number_seen (Some p) = refl
 
 pub returns : goal.returns
 returns c =
-    let s = c.args.flight.question in
+    let s = c.args.flight.question.sensed in
     let l = flown c.args.flight.sense c.args.flight.numbers.now in
     let number : c.map.result ≡ option_map (λ (p : Place). p.second.n) c.find.result = search rules in
     number

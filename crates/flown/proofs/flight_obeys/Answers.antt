@@ -10,7 +10,7 @@ use Rattle.flown.proofs.flight_obeys.Goals as goal
 
 pub returns : goal.returns
 returns c =
-    let s = c.args.flight.question in
+    let s = c.args.flight.question.sensed in
     let l = flown c.args.flight.sense c.args.flight.numbers.now in
     all_from_yields_List (obeys s) c.all.new.self _ _ c.all.ensures.ran
     (YieldsList-from_first seen left_places (to_the_end s l 0) c.places.ensures)

@@ -12,4 +12,4 @@ abbrev pub to_the_end : SensedQuestion → List Stretch → ℕ → List Seen
 to_the_end s l n = places_from s l (suc (duration l) - n) n
 
 abbrev pub left_places : Places → List Seen
-left_places p = cond p.ended [] (to_the_end p.flight.question (flown p.flight.sense p.flight.numbers.now) p.place.second.n)
+left_places p = cond p.ended [] (to_the_end p.flight.question.sensed (flown p.flight.sense p.flight.numbers.now) p.place.second.n)

@@ -18,8 +18,8 @@ same_test e f h i = cc
 
 pub returns : goal.returns
 returns c =
-    let s = c.args.s in
-    let z = c.requires in
+    let s = c.args.s.sensed in
+    let z = c.args.s.sizes in
     let motion = c.args.second.motion in
     let over = c.turned_over.ensures in
     let up = c.upwards-up.ensures in

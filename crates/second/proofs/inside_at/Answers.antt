@@ -9,8 +9,8 @@ use Rattle.second.proofs.inside_at.Goals as goal
 
 pub returns : goal.returns
 returns c =
-    let s = c.args.s in
-    let z = c.requires in
+    let s = c.args.s.sensed in
+    let z = c.args.s.sizes in
     let m = c.args.second.sizes in
     let v = equal_to c.distance_at-ahead.ensures (read_ahead s c.args.second.n z c.args.second.early) in
     let apart : c.unsigned_abs.result ≡ nat_abs (distance_at s c.args.second.n 1) = plain_call c.unsigned_abs.ensures.value (search second_terms depth 20) tt in

@@ -19,9 +19,9 @@ closing_in p R (suc c) h = refl
 
 pub returns-clause-value : goal.returns-clause-value
 returns-clause-value k =
-    let s = k.args.s in
+    let s = k.args.s.sensed in
     let R = distance_at s k.args.second.n 1 in
-    let z = k.requires in
+    let z = k.args.s.sizes in
     let v = equal_to k.distance_at-ahead.ensures (read_ahead s k.args.second.n z k.args.second.early) in
     let from : k.positive_part.result ≡ max0 (R -ℤ pos (p s)) = plain_call k.positive_part.ensures (search second_terms depth 20) tt in
     let end : to_z w64 (of_z w64 (to_z w64 (of_z w64 k.distance_at-ahead.result) +ℤ to_z w64 (p s))) ≡ R +ℤ pos (p s) = result (search second_terms depth 20) tt in
@@ -31,10 +31,10 @@ returns-clause-value k =
 
 pub returns-clause-proper : goal.returns-clause-proper
 returns-clause-proper k =
-    let s = k.args.s in
+    let s = k.args.s.sensed in
     subst Proper (sym (returns-clause-value k)) (near_part_lem (c s) (p s) (distance_at s k.args.second.n 1)).proper
 
 pub returns-clause-divisor_within : goal.returns-clause-divisor_within
 returns-clause-divisor_within k =
-    let s = k.args.s in
-    subst (DivisorWithin max_closing_speed) (sym (returns-clause-value k)) (near_divisor max_closing_speed (c s) (p s) (distance_at s k.args.second.n 1) (omega arith) k.requires.c_hi)
+    let s = k.args.s.sensed in
+    subst (DivisorWithin max_closing_speed) (sym (returns-clause-value k)) (near_divisor max_closing_speed (c s) (p s) (distance_at s k.args.second.n 1) (omega arith) k.args.s.sizes.c_hi)

@@ -6,11 +6,12 @@ use Rattle.shown.proofs.lowest_point.Goals as goal
 
 pub no_later-requires : goal.no_later-requires
 no_later-requires c =
-    let s = c.args.s in
+    let s = c.args.question.sensed in
+    let z = c.args.question.sizes in
     let t = c.in-Some.t in (
-      near_sized t (turning_reach s c.requires.sizes t (sym c.turning_instant.ensures ∙ c.in-Some.is)),
-      near_sized c.args.start (subst Near (sym c.requires.starts) (window_start_near s c.requires.sizes)),
+      near_sized t (turning_reach s z t (sym c.turning_instant.ensures ∙ c.in-Some.is)),
+      near_sized c.args.start (subst Near (sym c.requires) (window_start_near s z)),
     )
 
-pub in_window-requires-clause-in_reach : goal.in_window-requires-clause-in_reach
-in_window-requires-clause-in_reach c = turning_reach c.args.s c.requires.sizes c.in-Some.t (sym c.turning_instant.ensures ∙ c.in-Some.is)
+pub in_window-requires : goal.in_window-requires
+in_window-requires c = turning_reach c.args.question.sensed c.args.question.sizes c.in-Some.t (sym c.turning_instant.ensures ∙ c.in-Some.is)

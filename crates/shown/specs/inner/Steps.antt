@@ -35,6 +35,10 @@ unfoldable pub shown_at : Side → SensedQuestion → Instant → Option Instant
 unfolding not_beyond
 shown_at side s t = then_some (not_beyond side s t.n t.m) t
 
+-- the turning instant of a question, if there is one
+abbrev pub turning_of : SensedQuestion → Option Instant
+turning_of s = turning_instant (q s) (a s) (d s) (u_d s)
+
 -- Where the path's lowest point after the delay lies, by its turning instant: "d + max(0, −u_d)/a if q ≥ 0"
 abbrev pub lowest_by : SensedQuestion → Option Instant → LowestPoint
 lowest_by s None = Beyond
@@ -42,7 +46,7 @@ lowest_by s (Some t) = cond (no_later t (window_start s)) Passed (cond (in_windo
 
 unfoldable pub lowest_point : SensedQuestion → LowestPoint
 unfolding in_window
-lowest_point s = lowest_by s (turning_instant (q s) (a s) (d s) (u_d s))
+lowest_point s = lowest_by s (turning_of s)
 
 -- a search may begin: the path goes towards the intruder for ever, and is beyond it at 0 and where the search starts
 pub record Searchable (side : Side) (s : SensedQuestion) : Type 0 where

@@ -7,15 +7,15 @@ use Rattle.flown.proofs.Flight.after.Goals as goal
 pub begin-requires : goal.begin-requires
 begin-requires c =
     let f = c.args.self in
-    next_begins f.question f.sense f.numbers.now c.requires.at c.requires.going c.motion_after-motion.ensures c.if-place-eq1.true
+    next_begins f.question.sensed f.sense f.numbers.now c.requires.at c.requires.going c.motion_after-motion.ensures c.if-place-eq1.true
 
 pub invariant_of-result : goal.invariant_of-result
 invariant_of-result c =
     let f = c.args.self in
     let still : 0 < c.args.place.left - 1 = omega arith in
-    let left = next_left f.question f.sense f.numbers.now c.requires.at c.requires.going c.motion_after-motion.ensures in
-    let motion = next_motion f.question f.sense f.numbers.now c.requires.at c.requires.going c.motion_after-motion.ensures still in
-    record { early = early f.numbers.now f.within f.sense left; sizes = motion_sizes f.numbers.now f.within f.sense left f.question f.sizes motion }
+    let left = next_left f.question.sensed f.sense f.numbers.now c.requires.at c.requires.going c.motion_after-motion.ensures in
+    let motion = next_motion f.question.sensed f.sense f.numbers.now c.requires.at c.requires.going c.motion_after-motion.ensures still in
+    record { early = early f.numbers.now f.within f.sense left; sizes = motion_sizes f.numbers.now f.within f.sense left f.question.sensed f.question.sizes motion }
 
 pub returns : goal.returns
 returns c =
@@ -23,9 +23,9 @@ returns c =
     let still : 0 < c.args.place.left - 1 = omega arith in (
       refl,
       record {
-        left = next_left f.question f.sense f.numbers.now c.requires.at c.requires.going c.motion_after-motion.ensures;
+        left = next_left f.question.sensed f.sense f.numbers.now c.requires.at c.requires.going c.motion_after-motion.ensures;
         going = λ none. absurd (omega arith);
         within = c.requires.at.within;
-        motion = next_motion f.question f.sense f.numbers.now c.requires.at c.requires.going c.motion_after-motion.ensures still;
+        motion = next_motion f.question.sensed f.sense f.numbers.now c.requires.at c.requires.going c.motion_after-motion.ensures still;
       },
     )

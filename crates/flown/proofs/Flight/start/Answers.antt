@@ -11,6 +11,6 @@ use Rattle.flown.proofs.Flight.start.Goals as goal
 pub begin-requires : goal.begin-requires
 begin-requires c =
     let f = c.args.self in
-    let s = f.question in
-    let speed = result (read_stored (bounded (u s) max_speed_difference f.sizes.u_lo f.sizes.u_hi)) tt in
+    let s = f.question.sensed in
+    let speed = result (read_stored (bounded (u s) max_speed_difference f.question.sizes.u_lo f.question.sizes.u_hi)) tt in
     subst (λ (v : ℤ). BeginsAt s f.sense f.numbers.now 0 (moving (pos 0) v (pos 0)) f.numbers.now) (sym speed) (begins s f.sense f.numbers.now f.within)

@@ -10,7 +10,7 @@ use Rattle.flown.proofs.PlacesIterator.next.Goals.{then-place-eq0, else-place-eq
 pub returns-clause-steps : goal.returns-clause-steps
 returns-clause-steps c =
     let self = c.args.self.now in
-    let s = self.flight.question in
+    let s = self.flight.question.sensed in
     let w = self.flight.sense in
     let l = self.flight.numbers.now in
     let n = self.place.second.n in
