@@ -4,7 +4,6 @@ use mathlib.Core.Path.{◌≡◌, refl, sym, ap, ◌∙◌}
 use mathlib.Core.Bool.{Bool, true, false, ◌||◌}
 use mathlib.Core.List.{[], ◌∷◌}
 use Prim.Native.Nat.{ℕ, ◌<◌}
-use native.Mathlib.Omega.{arith}
 use lib.IntN.{ℤ}
 use Rattle.question.specs.declared.Encounter.{Encounter}
 use Rattle.limits.specs.Limits.{limit_within, no_limit}
@@ -20,12 +19,12 @@ use Rattle.question.specs.declared.refusal.Refusal.{Refusal}
 use Rattle.question.specs.declared.Question.{Question}
 
 -- 17 is its own test's number
-seventeen : (a b c d : Bool) → first_refusal (check 8 a ∷ check 9 b ∷ check 17 c ∷ check 6 d ∷ []) ≡ Err Refusal.NeverIssued → c ≡ false
-seventeen false b c d e = absurd (let z : ◌≡◌ {A = ℕ} 8 17 = cc in omega arith)
-seventeen true false c d e = absurd (let z : ◌≡◌ {A = ℕ} 9 17 = cc in omega arith)
+seventeen : (a b c d : Bool) → first_refusal (check Refusal.CodeUnknown a ∷ check Refusal.CodeNotJudged b ∷ check Refusal.NeverIssued c ∷ check Refusal.TimesOutside d ∷ []) ≡ Err Refusal.NeverIssued → c ≡ false
+seventeen false b c d e = cc
+seventeen true false c d e = cc
 seventeen true true false d e = refl
-seventeen true true true false e = absurd (let z : ◌≡◌ {A = ℕ} 6 17 = cc in omega arith)
-seventeen true true true true e = absurd (let z : ◌≡◌ {A = ℕ} 0 1 = cc in omega arith)
+seventeen true true true false e = cc
+seventeen true true true true e = cc
 
 module _ (st : State) (w : StoredWithin st) (x : Encounter) (met : st.encounter ≡ Some x) (code : ℕ) (limit : ℤ) (byte : code < 256) where
   abbrev found : Result Question Refusal

@@ -21,10 +21,9 @@ use Rattle.verdict.specs.declared.ClearSides.{ClearSides}
 use Rattle.verdict.specs.declared.Verdict.{Verdict}
 use Rattle.verdict.specs.declared.Verdict.TheVariants.{Clear, Conflict, Conflicts}
 use Rattle.verdict.specs.Verdicts.{verdict}
-use Rattle.judge.specs.Answers.{checked_answer, answer, answer_record}
+use Rattle.judge.specs.Answers.{checked_answer, answer}
 use Rattle.judge.specs.Demand3 as judge
 use Rattle.judge.proofs.Demand3.{judged, demand_3, one_sided_exactly, two_sided_exactly}
-use Rattle.judge.proofs.AnswerRecords.{record_determines}
 use Rattle.judge.proofs.WithoutDelay.{answer_without_delay}
 use Rattle.region.proofs.VerdictRegion.{clear_is_delayed_region, clear_is_immediate_region}
 use Rattle.band.proofs.AcceptedBand.{clear_outside_band}
@@ -112,16 +111,16 @@ module _ (x : Encounter) (y : Settings) (z : Question) (accepted : refusal x y z
     figure_3 = λ no-limit at_once. (clear_is_immediate_region x y z accepted one no-limit at_once).by_result (answer x y z) refl;
   }
 
--- ---- the answer of the definitions, and so every answer with its record
+-- ---- the answer of the definitions
 pub answer_right : (x : Encounter) (y : Settings) (z : Question) → RightlyAnswered x y z (answer x y z)
 unfolding answer
 answer_right x y z = record {
-  refused = λ number e. ap (λ (k : Result ⊤ Refusal). checked_answer k (verdict z (sensed_question x y z))) e;
+  refused = λ why e. ap (λ (k : Result ⊤ Refusal). checked_answer k (verdict z (sensed_question x y z))) e;
   judged = judged_as x y z;
   one_sided_lem = region x y z;
   two_sided_lem = clear_outside_band x y z;
   without_delay = answer_without_delay x y z;
 }
 
-pub rightly : (x : Encounter) (y : Settings) (z : Question) (r : Result Verdict Refusal) → answer_record r ≡ answer_record (answer x y z) → RightlyAnswered x y z r
-rightly x y z r e = subst (RightlyAnswered x y z) (sym (record_determines r (answer x y z) e)) (answer_right x y z)
+pub rightly : (x : Encounter) (y : Settings) (z : Question) (r : Result Verdict Refusal) → r ≡ answer x y z → RightlyAnswered x y z r
+rightly x y z r e = subst (RightlyAnswered x y z) (sym e) (answer_right x y z)

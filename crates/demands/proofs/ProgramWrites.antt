@@ -21,7 +21,7 @@ answered_output sheet e = ap (λ (o : Result ℕ Refusal). written_for o (sheet_
 
 written : (sheet : List ℕ) → Written sheet (program_output sheet)
 written sheet = record {
-  refused = λ number e. refused_output sheet number e;
+  refused = refused_output sheet;
   answered = λ e. let output = answered_output sheet e in (output, subst (EachRecord sheet) (sym output) (each sheet));
 }
 
