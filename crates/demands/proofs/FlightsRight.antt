@@ -94,6 +94,7 @@ module _ (x : Encounter) (y : Settings) (z : OneSidedAdvice) (l : List ℤ) wher
         let same : verdict (asked z) s ≡ Clear sides = said (verdict (asked z) s) sides (sym (judged x y (asked z) accepted) ∙ clear) in
         clear_never_inside x y (asked z) accepted refl (not_conflict (verdict (asked z) s) sides same) (flight_of l) ((obeys_decided s f).yes (subst T (sym (a.obeys ∙ obeying)) tt));
   }
+
   pub kept_out : (r : Result Verdict Refusal) (t : Result Flown Refusal) → r ≡ answer x y (asked z) → t ≡ flight_answer x y z l → ClearKeepsOut x y z l r t
   kept_out r t e g =
       subst (λ (j : Result Verdict Refusal). ClearKeepsOut x y z l j t) (sym e)

@@ -26,7 +26,11 @@ use sheet::answer_sheet;
 use verdict::Verdict;
 
 // The entry for plain numbers.
-pub fn judge_demanded(encounter: Encounter, settings: Settings, question: Question) -> Result<Verdict, Refusal>
+pub fn judge_demanded(
+    encounter: Encounter,
+    settings: Settings,
+    question: Question,
+) -> Result<Verdict, Refusal>
     ensures { RightlyAnswered encounter settings question result }
 {
     judge(encounter, settings, question)
@@ -65,7 +69,11 @@ pub fn program_output_demanded(sheet: &[u8]) -> Output
 }
 
 // The path on the screen: the drawing, and the point of a second.
-pub fn drawing_demanded(encounter: Encounter, settings: Settings, question: Question) -> Result<Drawing, Refusal>
+pub fn drawing_demanded(
+    encounter: Encounter,
+    settings: Settings,
+    question: Question,
+) -> Result<Drawing, Refusal>
     ensures { RightlyDrawn encounter settings question (with_number (content result)) }
 {
     screen::screen_drawing(encounter, settings, question)

@@ -146,6 +146,10 @@ pub fn crosses_in_second(s: SizedQuestion, second: Second) -> bool
 {
     let part = near_part(s, second);
     let up = upwards(s.sensed.level, s.sensed.half_height, second.motion);
-    let down = upwards(-s.sensed.level, s.sensed.half_height, turned_over(second.motion));
+    let down = upwards(
+        -s.sensed.level,
+        s.sensed.half_height,
+        turned_over(second.motion),
+    );
     up.reaches(part) & down.reaches(part)
 }
