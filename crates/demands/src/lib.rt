@@ -26,13 +26,19 @@ use sheet::answer_sheet;
 use verdict::Verdict;
 
 // The entry for plain numbers.
-pub fn judge_demanded(encounter: Encounter, settings: Settings, question: Question) -> Result<Verdict, Refusal>
+#[tactic(auto, using(crate::proofs::PlainAnswers::rightly))]
+pub fn judge_demanded(
+    encounter: Encounter,
+    settings: Settings,
+    question: Question,
+) -> Result<Verdict, Refusal>
     ensures { RightlyAnswered encounter settings question result }
 {
     judge(encounter, settings, question)
 }
 
 // The same for C and Rust: the numbers are those of a right answer's record.
+#[tactic(auto, using(crate::proofs::Exported::rightly_exported))]
 pub fn judge_plain_demanded(
     encounter: Encounter,
     settings: Settings,
@@ -58,6 +64,7 @@ pub fn answer_sheet_bytes_demanded(sheet: &[u8], area: &mut [u8]) -> SheetResult
 }
 
 // The program's own function.
+#[tactic(auto, using(crate::proofs::ProgramWrites::written_by))]
 pub fn program_output_demanded(sheet: &[u8]) -> Output
     ensures { Written sheet.now (take result.length result.area) }
 {
@@ -65,12 +72,18 @@ pub fn program_output_demanded(sheet: &[u8]) -> Output
 }
 
 // The path on the screen: the drawing, and the point of a second.
-pub fn drawing_demanded(encounter: Encounter, settings: Settings, question: Question) -> Result<Drawing, Refusal>
+#[tactic(auto, using(crate::proofs::ScreenRight::rightly_drawn))]
+pub fn drawing_demanded(
+    encounter: Encounter,
+    settings: Settings,
+    question: Question,
+) -> Result<Drawing, Refusal>
     ensures { RightlyDrawn encounter settings question (with_number (content result)) }
 {
     screen::screen_drawing(encounter, settings, question)
 }
 
+#[tactic(auto, using(crate::proofs::ScreenRight::rightly_placed))]
 pub fn point_demanded(
     encounter: Encounter,
     settings: Settings,
@@ -83,6 +96,7 @@ pub fn point_demanded(
 }
 
 // The same for C and Rust.
+#[tactic(auto, using(crate::proofs::ScreenExported::rightly_drawn))]
 pub fn exported_drawing_demanded(
     encounter: Encounter,
     settings: Settings,
@@ -93,6 +107,7 @@ pub fn exported_drawing_demanded(
     binding::screen_drawing(encounter, settings, question)
 }
 
+#[tactic(auto, using(crate::proofs::ScreenExported::rightly_placed))]
 pub fn exported_point_demanded(
     encounter: Encounter,
     settings: Settings,
@@ -114,6 +129,7 @@ pub fn positive_difference_demanded(q: i64, u: i64) -> u64
 }
 
 // The entry for a candidate's flight.
+#[tactic(auto, using(crate::proofs::FlightsRight::rightly))]
 pub fn flight_demanded(
     encounter: Encounter,
     settings: Settings,
@@ -132,6 +148,7 @@ pub struct BothAnswers {
     pub flown: Result<Flown, Refusal>,
 }
 
+#[tactic(auto, using(crate::proofs::FlightsRight::kept_out))]
 pub fn flight_and_verdict_demanded(
     encounter: Encounter,
     settings: Settings,
@@ -147,6 +164,7 @@ pub fn flight_and_verdict_demanded(
 }
 
 // The same for C and Rust.
+#[tactic(auto, using(crate::proofs::FlightsRight::rightly_exported))]
 pub fn exported_flight_demanded(
     encounter: Encounter,
     settings: Settings,
