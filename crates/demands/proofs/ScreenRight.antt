@@ -36,8 +36,9 @@ use Rattle.pieces.proofs.Fields.{delay_sizes, arc_sizes, last_sizes}
 use Rattle.pieces.proofs.PathPieces.{right_pieces}
 use Rattle.screen.specs.declared.Piece.{Piece}
 use Rattle.screen.specs.declared.DrawnPiece.{DrawnPiece}
+use Rattle.screen.specs.declared.Drawing.{Drawing}
 use Rattle.screen.specs.Floats.{float}
-use Rattle.screen.specs.Drawings.{float_piece, drawn_piece, all_drawn, drawn_pieces, checked_content, screen_drawing}
+use Rattle.screen.specs.Drawings.{float_piece, drawn_piece, all_drawn, drawn_pieces, content, checked_content, screen_drawing}
 use Rattle.screen.specs.Points.{screen_point}
 use Rattle.screen.specs.RightScreen.{IsStraight, ExactPiece, ExactOnTheWay, RightPointAnswer}
 use Rattle.screen.proofs.Evaluation.{evaluated_exact}
@@ -187,6 +188,9 @@ module _ (x : Encounter) (y : Settings) (z : Question) where
     drawn = λ e. (drawn_pieces asked, ap numbered (accepted_content e), draws_path asked (accepted_sizes x y z e));
   }
 
+  pub rightly_drawn : (d : Result Drawing Refusal) → content d ≡ screen_drawing x y z → RightlyDrawn x y z (with_number (content d))
+  rightly_drawn d e = subst (RightlyDrawn x y z) (sym (ap numbered e)) drawing_right
+
   module _ (t : ℕ) where
     abbrev held : WholePiece
     held = piece_at asked (t ÷ 1)
@@ -212,3 +216,6 @@ module _ (x : Encounter) (y : Settings) (z : Question) where
       late = λ e l. ap point_numbered (second_above x y z t e l);
       drawn = λ e l. on_path (screen_point x y z t) (accepted_second x y z t e l);
     }
+
+    pub rightly_placed : (r : Result ScreenPoint Refusal) → r ≡ screen_point x y z t → RightlyPlaced x y z t (with_number r)
+    rightly_placed r e = subst (RightlyPlaced x y z t) (sym (ap point_numbered e)) point_right

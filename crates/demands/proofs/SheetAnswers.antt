@@ -171,3 +171,6 @@ pub answered_by : (sheet before after : List ℕ) (o : Result ℕ ℕ) → o ≡
 answered_by sheet before after o e f =
     subst (λ (a : List ℕ). SheetAnswered sheet before a o) (sym f)
     (subst (SheetAnswered sheet before (area_after sheet before)) (sym e) (sheet_answered sheet before))
+
+pub rightly : (sheet before after : List ℕ) (o : Result ℕ Refusal) → (o ≡ outcome sheet (length before)) × (after ≡ area_after sheet before) → SheetAnswered sheet before after (with_number o)
+rightly sheet before after o e = answered_by sheet before after (with_number o) (ap numbered e.0) e.1

@@ -2,7 +2,6 @@
 -- advisories have Table 1's sense, target, strength and delay; catalogue and reaction table list identical codes.
 use Rattle.std.specs.Prelude.{◌≡◌, ◌↔◌, ℕ, ◌*◌, ◌<◌, pos, Result, Some}
 use mathlib.Core.List.{map, Memᴰ}
-use Rattle.std.specs.Prelude.{Some}
 use Rattle.advisory.specs.declared.Instruction.{Instruction}
 use Rattle.advisory.specs.declared.Reaction.{Reaction}
 use Rattle.advisory.specs.Catalogue.{article_entries, Named, not_judged, Listed, CodeWithin}

@@ -26,6 +26,10 @@ use sheet::answer_sheet;
 use verdict::Verdict;
 
 // The entry for plain numbers.
+<<<<<<< HEAD
+=======
+#[tactic(auto, using(crate::proofs::PlainAnswers::rightly))]
+>>>>>>> d4d6d4d3a62de791a2c6eb81ca82442ff9ac15a8
 pub fn judge_demanded(
     encounter: Encounter,
     settings: Settings,
@@ -37,6 +41,7 @@ pub fn judge_demanded(
 }
 
 // The same for C and Rust: the numbers are those of a right answer's record.
+#[tactic(auto, using(crate::proofs::Exported::rightly_exported))]
 pub fn judge_plain_demanded(
     encounter: Encounter,
     settings: Settings,
@@ -62,6 +67,7 @@ pub fn answer_sheet_bytes_demanded(sheet: &[u8], area: &mut [u8]) -> SheetResult
 }
 
 // The program's own function.
+#[tactic(auto, using(crate::proofs::ProgramWrites::written_by))]
 pub fn program_output_demanded(sheet: &[u8]) -> Output
     ensures { Written sheet.now (take result.length result.area) }
 {
@@ -69,6 +75,10 @@ pub fn program_output_demanded(sheet: &[u8]) -> Output
 }
 
 // The path on the screen: the drawing, and the point of a second.
+<<<<<<< HEAD
+=======
+#[tactic(auto, using(crate::proofs::ScreenRight::rightly_drawn))]
+>>>>>>> d4d6d4d3a62de791a2c6eb81ca82442ff9ac15a8
 pub fn drawing_demanded(
     encounter: Encounter,
     settings: Settings,
@@ -79,6 +89,7 @@ pub fn drawing_demanded(
     screen::screen_drawing(encounter, settings, question)
 }
 
+#[tactic(auto, using(crate::proofs::ScreenRight::rightly_placed))]
 pub fn point_demanded(
     encounter: Encounter,
     settings: Settings,
@@ -91,6 +102,7 @@ pub fn point_demanded(
 }
 
 // The same for C and Rust.
+#[tactic(auto, using(crate::proofs::ScreenExported::rightly_drawn))]
 pub fn exported_drawing_demanded(
     encounter: Encounter,
     settings: Settings,
@@ -101,6 +113,7 @@ pub fn exported_drawing_demanded(
     binding::screen_drawing(encounter, settings, question)
 }
 
+#[tactic(auto, using(crate::proofs::ScreenExported::rightly_placed))]
 pub fn exported_point_demanded(
     encounter: Encounter,
     settings: Settings,
@@ -122,6 +135,7 @@ pub fn positive_difference_demanded(q: i64, u: i64) -> u64
 }
 
 // The entry for a candidate's flight.
+#[tactic(auto, using(crate::proofs::FlightsRight::rightly))]
 pub fn flight_demanded(
     encounter: Encounter,
     settings: Settings,
@@ -140,6 +154,7 @@ pub struct BothAnswers {
     pub flown: Result<Flown, Refusal>,
 }
 
+#[tactic(auto, using(crate::proofs::FlightsRight::kept_out))]
 pub fn flight_and_verdict_demanded(
     encounter: Encounter,
     settings: Settings,
@@ -155,6 +170,7 @@ pub fn flight_and_verdict_demanded(
 }
 
 // The same for C and Rust.
+#[tactic(auto, using(crate::proofs::FlightsRight::rightly_exported))]
 pub fn exported_flight_demanded(
     encounter: Encounter,
     settings: Settings,
