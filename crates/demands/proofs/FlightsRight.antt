@@ -96,15 +96,9 @@ module _ (x : Encounter) (y : Settings) (z : OneSidedAdvice) (l : List ℤ) wher
         clear_never_inside x y (asked z) accepted refl (not_conflict (verdict (asked z) s) sides same) (flight_of l) ((obeys_decided s f).yes (subst T (sym (a.obeys ∙ obeying)) tt));
   }
 
-<<<<<<< HEAD
-  pub kept_out : (r : Result Verdict Refusal) (t : Result Flown Refusal) → r ≡ answer x y (asked z) → t ≡ flight_answer x y z l → ClearKeepsOut x y z l r t
-  kept_out r t e g =
-      subst (λ (j : Result Verdict Refusal). ClearKeepsOut x y z l j t) (sym e)
-=======
   pub kept_out : (q : Question) (r : Result Verdict Refusal) (t : Result Flown Refusal) → q ≡ asked z → r ≡ answer x y q → t ≡ flight_answer x y z l → ClearKeepsOut x y z l r t
   kept_out q r t a e g =
       subst (λ (j : Result Verdict Refusal). ClearKeepsOut x y z l j t) (sym (e ∙ ap (answer x y) a))
->>>>>>> d4d6d4d3a62de791a2c6eb81ca82442ff9ac15a8
       (subst (ClearKeepsOut x y z l (answer x y (asked z))) (sym g) clear_right)
 
 -- ---- in numbers

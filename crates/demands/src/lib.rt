@@ -26,10 +26,7 @@ use sheet::answer_sheet;
 use verdict::Verdict;
 
 // The entry for plain numbers.
-<<<<<<< HEAD
-=======
 #[tactic(auto, using(crate::proofs::PlainAnswers::rightly))]
->>>>>>> d4d6d4d3a62de791a2c6eb81ca82442ff9ac15a8
 pub fn judge_demanded(
     encounter: Encounter,
     settings: Settings,
@@ -75,10 +72,7 @@ pub fn program_output_demanded(sheet: &[u8]) -> Output
 }
 
 // The path on the screen: the drawing, and the point of a second.
-<<<<<<< HEAD
-=======
 #[tactic(auto, using(crate::proofs::ScreenRight::rightly_drawn))]
->>>>>>> d4d6d4d3a62de791a2c6eb81ca82442ff9ac15a8
 pub fn drawing_demanded(
     encounter: Encounter,
     settings: Settings,
