@@ -73,7 +73,7 @@ struct Report {
     ghost points: { (other_points ≤ 4 * cases) × (points_drawn ≤ 4 * cases) × (points_refused ≤ 4 * cases) },
 }
 
-// A float's bit pattern: those of 0 and −0 differ.
+// A float's bit pattern, none where it is no number: such a one is equal to nothing. Those of 0 and −0 differ.
 fn pattern(x: f64) -> Option<u64> {
     if x.is_nan() {
         return None;
