@@ -7,10 +7,10 @@ ghost use Rattle.std.specs.Fn.{FnReturnsAt};
 ghost use Rattle.std.specs.List.{FoldsTo};
 ghost use Rattle.std.specs.Io.BufRead.{take_through, drop_through};
 ghost use Rattle.std.specs.Io.KnownBytes.{Appends};
-ghost use Rattle.cases.specs.Numbers.{encounter_in, settings_in};
+ghost use Rattle.cases.specs.Numbers.{encounter_in, settings_in, question_in};
 ghost use Rattle.cases.specs.Reports.{report_text, unread_text, WritesReport, WritesArgument};
 
-use question::{Encounter, Settings};
+use question::{Encounter, Question, Settings};
 use reading::{NAME_ROOM, argument, argument_count, open_named, read_full};
 use std::fmt::Display;
 use std::io;
@@ -42,6 +42,23 @@ pub fn settings_in<const N: usize>(case: &[u64; N]) -> Settings
         radius: case[5].cast_signed(),
         half_height: case[6].cast_signed(),
         delay_acceleration: case[7].cast_signed(),
+    }
+}
+
+// And the question's, where the case has one.
+pub fn question_in<const N: usize>(case: &[u64; N]) -> Question
+    requires { 16 ≤ N }
+    ensures { result ≡ question_in case.now }
+{
+    Question {
+        sides: case[8].cast_signed(),
+        sense: case[9].cast_signed(),
+        target: case[10].cast_signed(),
+        upper_target: case[11].cast_signed(),
+        strength: case[12].cast_signed(),
+        upper_strength: case[13].cast_signed(),
+        delay: case[14].cast_signed(),
+        limit: case[15].cast_signed(),
     }
 }
 

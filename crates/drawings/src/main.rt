@@ -7,7 +7,7 @@
 ghost use Rattle.std.specs.Prelude.{◌≡◌, ◌+◌, ◌*◌, ◌^◌, ◌<◌, ◌≤◌};
 
 use binding::{DrawingResult, PieceResult, PointResult, screen_drawing, screen_point};
-use cases::{report_arguments, whole_cases};
+use cases::{encounter_in, question_in, report_arguments, settings_in, whole_cases};
 use std::fmt::Display;
 use std::{fmt, io};
 
@@ -133,46 +133,15 @@ impl From<PointResult> for Point {
     }
 }
 
-// The entry takes its sixteen numbers one by one, as C does.
 fn drawing_of(case: &[u64; CASE]) -> DrawingResult {
-    screen_drawing(
-        case[0].cast_signed(),
-        case[1].cast_signed(),
-        case[2].cast_signed(),
-        case[3].cast_signed(),
-        case[4].cast_signed(),
-        case[5].cast_signed(),
-        case[6].cast_signed(),
-        case[7].cast_signed(),
-        case[8].cast_signed(),
-        case[9].cast_signed(),
-        case[10].cast_signed(),
-        case[11].cast_signed(),
-        case[12].cast_signed(),
-        case[13].cast_signed(),
-        case[14].cast_signed(),
-        case[15].cast_signed(),
-    )
+    screen_drawing(encounter_in(case), settings_in(case), question_in(case))
 }
 
 fn point_of(case: &[u64; CASE], second: u64) -> PointResult {
     screen_point(
-        case[0].cast_signed(),
-        case[1].cast_signed(),
-        case[2].cast_signed(),
-        case[3].cast_signed(),
-        case[4].cast_signed(),
-        case[5].cast_signed(),
-        case[6].cast_signed(),
-        case[7].cast_signed(),
-        case[8].cast_signed(),
-        case[9].cast_signed(),
-        case[10].cast_signed(),
-        case[11].cast_signed(),
-        case[12].cast_signed(),
-        case[13].cast_signed(),
-        case[14].cast_signed(),
-        case[15].cast_signed(),
+        encounter_in(case),
+        settings_in(case),
+        question_in(case),
         second,
     )
 }

@@ -6,7 +6,7 @@
 
 ghost use Rattle.std.specs.Prelude.{◌≡◌, ◌+◌, ◌-◌, ◌^◌, ◌<◌, ◌≤◌};
 
-use cases::{encounter_in, report_arguments, settings_in, whole_cases};
+use cases::{encounter_in, question_in, report_arguments, settings_in, whole_cases};
 use coded::coded_question;
 use judge::{judge, sides_number};
 use question::{Question, Refusal};
@@ -41,19 +41,6 @@ struct Report {
     // Bytes of a case that was cut, or of a file longer than the room.
     left_over: usize,
     ghost within: { (differences ≤ cases) × (agreeing ≤ cases) × (clear ≤ cases) × (conflict ≤ cases) × (conflicts ≤ cases) × (refused ≤ cases) },
-}
-
-fn question_in(case: &[u64; CASE]) -> Question {
-    Question {
-        sides: case[8].cast_signed(),
-        sense: case[9].cast_signed(),
-        target: case[10].cast_signed(),
-        upper_target: case[11].cast_signed(),
-        strength: case[12].cast_signed(),
-        upper_strength: case[13].cast_signed(),
-        delay: case[14].cast_signed(),
-        limit: case[15].cast_signed(),
-    }
 }
 
 // The question, or the refusal of its code, which is the last byte of its number.
