@@ -23,6 +23,7 @@ use Rattle.path.specs.declared.SensedQuestion.{SensedQuestion}
 use Rattle.path.specs.declared.Side.{Side}
 use Rattle.path.specs.declared.Side.TheVariants.{Lower, Upper}
 use Rattle.path.specs.declared.side_question.SideQuestion.{SideQuestion}
+use Rattle.path.specs.declared.sized_question.SizedQuestion.{SizedQuestion}
 use Rattle.path.specs.Letters.{k, wh, u, q, d, e, upper_q}
 use Rattle.path.specs.Paths.{delay_height, u_d, speed_reached, upper_target}
 use Rattle.path.specs.inner.Sizes.{max_speed_difference, max_speed_after_delay, Sizes, Sized, farthest, InReach}
@@ -162,10 +163,11 @@ module _ (s : SensedQuestion) (z : Sizes s) where
   rule_edge_is side = ap (λ (start : ℤ). pos 2 *ℤ edge_height side s -ℤ start) (start_is side)
 
 -- a call's result is the definition's, and small
-module _ (asked : SideQuestion) {r : ℤ} where
-  abbrev pub read_bend : r ≡ bend asked.side asked.question.sensed → Reading r
-  read_bend h = equal_to h (bounded_absolute (bend asked.side asked.question.sensed) max_delay_acceleration (bend_natural asked.question.sensed asked.question.sizes asked.side))
+module _ (side : Side) (question : SizedQuestion) {r : ℤ} where
+  abbrev pub read_bend : r ≡ bend side question.sensed → Reading r
+  read_bend h = equal_to h (bounded_absolute (bend side question.sensed) max_delay_acceleration (bend_natural question.sensed question.sizes side))
 
+module _ (asked : SideQuestion) {r : ℤ} where
   abbrev pub read_speed_after_delay : r ≡ speed_after_delay asked.side asked.question.sensed → Reading r
   read_speed_after_delay h = equal_to h (bounded_absolute (speed_after_delay asked.side asked.question.sensed) max_speed_after_delay (after_delay_size asked.question.sensed asked.question.sizes asked.side))
 

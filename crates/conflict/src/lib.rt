@@ -18,26 +18,26 @@ ghost use Rattle.conflict.specs.inner.RuleSizes.{RuleSizes, most_missing, most_b
 ghost use Rattle.conflict.specs.inner.DifferenceRange.{max_operand};
 
 use instant::Instant;
-use path::{Side, SideQuestion};
+use path::{Side, SideQuestion, SizedQuestion};
 
 // The acceleration during the delay: against the advice on the lower path, towards it on the upper.
-fn delay_bend(asked: SideQuestion) -> i64
-    ensures { result ≡ bend asked.side asked.question.sensed }
+fn delay_bend(side: Side, question: SizedQuestion) -> i64
+    ensures { result ≡ bend side question.sensed }
 {
-    let e = asked.question.sensed.delay_acceleration as i64;
-    match asked.side {
+    let e = question.sensed.delay_acceleration as i64;
+    match side {
         Side::Lower => -e,
         Side::Upper => e,
     }
 }
 
 // The speed at the delay's end: u_d, or on the upper path the speed reached.
-pub fn speed_after_delay(asked: SideQuestion) -> i64
-    ensures { result ≡ speed_after_delay asked.side asked.question.sensed }
+pub fn speed_after_delay(side: Side, question: SizedQuestion) -> i64
+    ensures { result ≡ speed_after_delay side question.sensed }
 {
-    let bend = delay_bend(asked);
-    let u = asked.question.sensed.speed;
-    let d = asked.question.sensed.delay as i64;
+    let bend = delay_bend(side, question);
+    let u = question.sensed.speed;
+    let d = question.sensed.delay as i64;
     u + bend * d
 }
 
@@ -59,7 +59,9 @@ pub fn rule_target(asked: SideQuestion) -> i64
     let s = asked.question.sensed;
     match asked.side {
         Side::Lower => s.target,
-        Side::Upper => s.upper_target.max(speed_after_delay(asked)),
+        Side::Upper => s
+            .upper_target
+            .max(speed_after_delay(asked.side, asked.question)),
     }
 }
 
@@ -68,7 +70,7 @@ fn delay_height(asked: SideQuestion, t: Instant) -> i64
     requires { InReach Lower t.n t.m }
     ensures { result ≡ delay_height (bend asked.side asked.question.sensed) (u asked.question.sensed) t.n t.m }
 {
-    let bend = delay_bend(asked);
+    let bend = delay_bend(asked.side, asked.question);
     let u = asked.question.sensed.speed;
     let n = t.n as i64;
     let m = t.m as i64;
@@ -118,7 +120,7 @@ fn advice_rule(asked: SideQuestion) -> AdviceRule
     ensures { result ≡ rule_of asked.side asked.question.sensed }
 {
     let edge = edge_height(asked);
-    let speed = speed_after_delay(asked);
+    let speed = speed_after_delay(asked.side, asked.question);
     let u = asked.question.sensed.speed;
     let d = asked.question.sensed.delay as i64;
     AdviceRule {

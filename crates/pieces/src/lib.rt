@@ -6,9 +6,9 @@ ghost use Rattle.instant.specs.Order.{◌÷◌};
 ghost use Rattle.path.specs.Paths.{u_d};
 ghost use Rattle.pieces.specs.Pieces.{height_after_delay, missing_speed, delay_piece, arc_piece, last_piece, piece_at, last_second};
 
-use conflict::positive_difference;
+use conflict::{positive_difference, speed_after_delay};
 use instant::{Instant, no_later};
-use path::{Side, SideQuestion, SizedQuestion};
+use path::{Side, SizedQuestion};
 
 // A piece of path: from when it holds, and the coefficients of t², t and 1, times 2·a.
 #[derive(Clone, Copy)]
@@ -30,22 +30,12 @@ fn height_after_delay(question: SizedQuestion) -> i64
     a * (2 * u * d - e * d * d)
 }
 
-// The speed u_d there.
-fn speed_after_delay(question: SizedQuestion) -> i64
-    ensures { result ≡ u_d question.sensed }
-{
-    conflict::speed_after_delay(SideQuestion {
-        side: Side::Lower,
-        question,
-    })
-}
-
 // G, the speed that is missing at the delay's end.
 pub fn missing_speed(question: SizedQuestion) -> u64
     ensures { result ≡ missing_speed question.sensed }
 {
     let q = question.sensed.target;
-    let u_d = speed_after_delay(question);
+    let u_d = speed_after_delay(Side::Lower, question);
     positive_difference(q, u_d)
 }
 
@@ -67,7 +57,7 @@ pub fn delay_piece(question: SizedQuestion) -> WholePiece
 pub fn arc_piece(question: SizedQuestion) -> WholePiece
     ensures { result ≡ arc_piece question.sensed }
 {
-    let u_d = speed_after_delay(question);
+    let u_d = speed_after_delay(Side::Lower, question);
     let height = height_after_delay(question);
     let a = question.sensed.strength as i64;
     let d = question.sensed.delay as i64;

@@ -27,10 +27,7 @@ fn turning_instant(question: SizedQuestion) -> Option<Instant>
     }
     let a = question.sensed.strength;
     let d = question.sensed.delay;
-    let speed = speed_after_delay(SideQuestion {
-        side: Side::Lower,
-        question,
-    });
+    let speed = speed_after_delay(Side::Lower, question);
     Some(Instant {
         n: d * a + positive_part(-speed),
         m: a,

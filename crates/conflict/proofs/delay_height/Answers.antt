@@ -14,21 +14,21 @@ pub overflow_mul-result-4 : goal.overflow_mul-result-4
 overflow_mul-result-4 c =
     let z = c.args.asked.question.sizes in
     let h = c.requires in
-    let bend = read_bend c.args.asked c.delay_bend-bend.ensures in
+    let bend = read_bend c.args.asked.side c.args.asked.question c.delay_bend-bend.ensures in
     fits (search numbers depth 20) tt
 
 pub overflow_mul-result-5 : goal.overflow_mul-result-5
 overflow_mul-result-5 c =
     let z = c.args.asked.question.sizes in
     let h = c.requires in
-    let bend = read_bend c.args.asked c.delay_bend-bend.ensures in
+    let bend = read_bend c.args.asked.side c.args.asked.question c.delay_bend-bend.ensures in
     fits (search numbers depth 20) tt
 
 pub overflow_add-result : goal.overflow_add-result
 overflow_add-result c =
     let z = c.args.asked.question.sizes in
     let h = c.requires in
-    let bend = read_bend c.args.asked c.delay_bend-bend.ensures in
+    let bend = read_bend c.args.asked.side c.args.asked.question c.delay_bend-bend.ensures in
     fits (search numbers depth 20) tt
 
 pub returns : goal.returns
@@ -36,5 +36,5 @@ unfolding delay_height
 returns c =
     let z = c.args.asked.question.sizes in
     let h = c.requires in
-    let bend = read_bend c.args.asked c.delay_bend-bend.ensures in
+    let bend = read_bend c.args.asked.side c.args.asked.question c.delay_bend-bend.ensures in
     result (search numbers depth 20) tt

@@ -19,18 +19,18 @@ bend-speed Upper s = refl
 
 pub overflow_mul-result : goal.overflow_mul-result
 overflow_mul-result c =
-    let z = c.args.asked.question.sizes in
-    let bend = read_bend c.args.asked c.delay_bend-bend.ensures in
+    let z = c.args.question.sizes in
+    let bend = read_bend c.args.side c.args.question c.delay_bend-bend.ensures in
     fits (search numbers depth 20) tt
 
 pub overflow_add-result : goal.overflow_add-result
 overflow_add-result c =
-    let z = c.args.asked.question.sizes in
-    let bend = read_bend c.args.asked c.delay_bend-bend.ensures in
+    let z = c.args.question.sizes in
+    let bend = read_bend c.args.side c.args.question c.delay_bend-bend.ensures in
     fits (search numbers depth 20) tt
 
 pub returns : goal.returns
 returns c =
-    let z = c.args.asked.question.sizes in
-    let bend = read_bend c.args.asked c.delay_bend-bend.ensures in
-    result (search numbers depth 20) tt ∙ bend-speed c.args.asked.side c.args.asked.question.sensed
+    let z = c.args.question.sizes in
+    let bend = read_bend c.args.side c.args.question c.delay_bend-bend.ensures in
+    result (search numbers depth 20) tt ∙ bend-speed c.args.side c.args.question.sensed
