@@ -1,4 +1,6 @@
 // The time shown on a side: the first of the rule's instants with a conflict, or, where the window has no end, the first whole second with one.
+//
+// Where an instant is asked, the function is inlined: so each side gets code of its own, and a verdict takes a third fewer instructions (`compare/bench`).
 #![tactic(auto)]
 
 ghost use Rattle.std.specs.Prelude.{◌≡◌, ◌++◌, None, Some};
@@ -65,6 +67,7 @@ fn search_end(asked: SideQuestion) -> u64
 }
 
 // The first whole second at which the path is not beyond the intruder: all seconds that follow one such are such, so the search halves.
+#[inline(always)]
 fn first_second(asked: SideQuestion) -> u64
     requires { Searchable asked.side asked.question.sensed }
     ensures { first_reached asked.side asked.question.sensed ≡ Some (result ÷ 1) }
@@ -83,6 +86,7 @@ fn first_second(asked: SideQuestion) -> u64
 }
 
 // What is left where the window has no end and no instant has a conflict.
+#[inline(always)]
 fn from_search(asked: SideQuestion) -> Option<Instant>
     requires opened { Opened asked.question.sensed }
     requires tried { InstantsTried asked.side asked.question.sensed }
@@ -100,6 +104,7 @@ fn from_search(asked: SideQuestion) -> Option<Instant>
 
 // An instant of the window, shown if the path is not beyond the intruder there.
 #[tactic(auto, unfolding(crate::specs::inner::Steps::shown_at))]
+#[inline(always)]
 fn shown_at(asked: SideQuestion, t: Instant) -> Option<Instant>
     requires { InReach asked.side t.n t.m }
     ensures { result ≡ shown_at asked.side asked.question.sensed t }
@@ -108,6 +113,7 @@ fn shown_at(asked: SideQuestion, t: Instant) -> Option<Instant>
 }
 
 // The window's end is in the window where its start is; without an end the search is left.
+#[inline(always)]
 fn from_end(asked: SideQuestion) -> Option<Instant>
     requires opened { Opened asked.question.sensed }
     requires tried { InstantsTried asked.side asked.question.sensed }
@@ -193,6 +199,7 @@ fn from_delay(question: SizedQuestion, start: Instant) -> Option<Instant>
 
 // The time shown on a side of a window that opens at a start. Between the start and the end only the lower path has instants; an upper path that does not
 // approach falls throughout.
+#[inline(always)]
 pub fn time_shown(asked: SideQuestion, start: Instant) -> Option<Instant>
     requires { opening asked.question.sensed ≡ Some start }
     ensures { result ≡ time_shown asked.side asked.question.sensed }
