@@ -1,5 +1,6 @@
 //! turned [COUNT] [SEED]: how fast the comparison finds a broken judge. Each comparison in the judge's
-//! sources is turned in a copy of its own (< and <=, > and >=, == and !=), the copy is built by rustc
+//! sources is turned in a copy of its own (< and <=, > and >=, == and !=; of a range with its last
+//! number, and of a call of `limits::within`, either end becomes strict), the copy is built by rustc
 //! as a dynamic library, and held against the independent implementation on COUNT plain questions (1
 //! million) and, where these find nothing, the drawings of a tenth of them, a tenth as many flights and
 //! a hundredth as many sheets, up to the first difference. The status is 0 only if the copy with nothing turned agrees and
@@ -36,49 +37,14 @@ const EQUIVALENT: &[Equivalent] = &[
         reason: "of two instants that are the same time either is shown alike, in lowest terms; a path that turns at the window's start is tried there once more; two pieces have the same height where they meet",
     },
     Equivalent {
-        function: "gcd",
-        turned: "while y == 0 {",
-        reason: "no time of an accepted question has a divisor of more than 32 bits",
-    },
-    Equivalent {
         function: "short_gcd",
         turned: "while y >= 1 {",
         reason: "a division by 1 leaves 0, and 1 as the divisor",
     },
     Equivalent {
         function: "common_divisor",
-        turned: "if a < 4294967295 {",
-        reason: "32 bits and 64 find the same divisor",
-    },
-    Equivalent {
-        function: "common_divisor",
-        turned: "if b < 4294967295 {",
-        reason: "32 bits and 64 find the same divisor",
-    },
-    Equivalent {
-        function: "shared_twos",
-        turned: "if in_a <= in_b { in_a } else { in_b }",
-        reason: "of two equal counts either is the smaller",
-    },
-    Equivalent {
-        function: "reaction_row",
-        turned: "if place <= ROWS {",
-        reason: "the library asks only for places below ROWS",
-    },
-    Equivalent {
-        function: "positive_part",
-        turned: "if x <= 0 {",
-        reason: "0 is its own positive part",
-    },
-    Equivalent {
-        function: "absolute",
-        turned: "if x <= 0 {",
-        reason: "-0 is 0",
-    },
-    Equivalent {
-        function: "upper_target",
-        turned: "if target < speed {",
-        reason: "of two equal speeds either is the larger",
+        turned: "_ if b != 0 => a,",
+        reason: "no time of an accepted question has a divisor of more than 32 bits",
     },
     Equivalent {
         function: "positive_difference",
@@ -87,38 +53,23 @@ const EQUIVALENT: &[Equivalent] = &[
     },
     Equivalent {
         function: "rule_not_beyond",
-        turned: "if a * n <= gap * m {",
+        turned: "if rule.strength * since.n <= gap * since.m {",
         reason: "at G/a the arc ends where the straight begins: both comparisons are the same there",
     },
     Equivalent {
-        function: "lower_not_beyond",
-        turned: "if n < end {",
+        function: "not_beyond",
+        turned: "if t.n < end {",
         reason: "at d the rule begins at the height where the delay ends",
-    },
-    Equivalent {
-        function: "upper_not_beyond",
-        turned: "if n < end {",
-        reason: "at d the rule begins at the height where the delay ends",
-    },
-    Equivalent {
-        function: "conflict_at_delay",
-        turned: "if start.n <= d * start.m {",
-        reason: "a window that starts at d has been tried there",
     },
     Equivalent {
         function: "approaching",
-        turned: "Side::Lower => s.target <= 0,",
+        turned: "Side::Lower => target <= 0,",
         reason: "in a window without an end a path to target 0 is settled at its turning instant, and not searched",
     },
     Equivalent {
-        function: "clamp",
-        turned: "if MOST_GAINED <= edge {",
-        reason: "the bound is brought to itself",
-    },
-    Equivalent {
-        function: "clamp",
-        turned: "if edge <= MOST_LOST {",
-        reason: "the bound is brought to itself",
+        function: "conflict_at_delay",
+        turned: "start.n <= d * start.m && in_window(question, end) && not_beyond(lower, end)",
+        reason: "a window that starts at d has been tried there",
     },
     Equivalent {
         function: "tops",
@@ -126,19 +77,14 @@ const EQUIVALENT: &[Equivalent] = &[
         reason: "a top at the part's first instant is tried as that",
     },
     Equivalent {
-        function: "reaches_from_to",
-        turned: "first | (last | (top & (v * y + g * z < 0)))",
+        function: "reaches",
+        turned: "first | (last | (top & (v * (y as i64) + g * (z as i64) < 0)))",
         reason: "a top at the part's last instant is tried as that",
     },
     Equivalent {
         function: "answer_fits",
-        turned: "if LONGEST_ANSWER < room {",
+        turned: "LONGEST_ANSWER < room || answer_length(sheet) <= room",
         reason: "an area of just that length has room for every answer, as the length pass finds too",
-    },
-    Equivalent {
-        function: "signed",
-        turned: "if n <= 2147483648 {",
-        reason: "2^31 and -2^31 are both outside the limits of every field, and refused alike",
     },
 ];
 
@@ -292,7 +238,7 @@ enum Found {
 fn tried(
     folder: &Path,
     modules: &[Module],
-    turned: Option<Comparison>,
+    turned: Option<&Comparison>,
     [count, seed]: [u64; 2],
 ) -> Result<(Found, f64), String> {
     let failed = |error: std::io::Error| error.to_string();
@@ -382,7 +328,7 @@ fn all(root: &Path, numbers: [u64; 2]) -> Result<Summary, String> {
     }
     println!("nothing turned: 0 differences, {took:.2} s\n");
     println!(
-        "{:<31}{:<14}{:>7}  {:<25}turned",
+        "{:<35}{:<14}{:>7}  {:<25}turned",
         "place", "found at", "after", "by"
     );
     let mut summary = Summary::default();
@@ -397,11 +343,11 @@ fn all(root: &Path, numbers: [u64; 2]) -> Result<Summary, String> {
         if let Some(i) = known {
             met[i] = true;
         }
-        let (found, took) = tried(&folder, &modules, Some(comparison), numbers)?;
+        let (found, took) = tried(&folder, &modules, Some(&comparison), numbers)?;
         let [at, time, what] = summary.row(&name, known, found, took);
         let file = modules[comparison.module].file.display();
         let place = format!("{file}:{}", comparison.line + 1);
-        println!("{place:<31}{at:<14}{time:>7}  {what:<25}{name}");
+        println!("{place:<35}{at:<14}{time:>7}  {what:<25}{name}");
     }
     for (known, met) in EQUIVALENT.iter().zip(met) {
         if !met {

@@ -1,4 +1,5 @@
 -- The codes that are listed, only named or unknown are ranges of the code byte: each by one test computed over all 256 codes.
+use Rattle.std.specs.Prelude.{Err, Ok, Result}
 use mathlib.Core.Path.{◌≡◌, refl, subst⁻¹}
 use mathlib.Core.Logic.Iff
 use mathlib.Core.Logic.{◌↔◌, inl, inr, ⊎_elim}
@@ -13,9 +14,9 @@ use Rattle.advisory.specs.ReactionTable.{reaction_table}
 use Rattle.advisory.specs.Advised.{advised_of}
 use Rattle.advisory.specs.inner.Codes.{Standing}
 use Rattle.advisory.specs.declared.Advice.{Advice}
-use Rattle.advisory.specs.declared.Listing.{Listing}
-use Rattle.advisory.specs.declared.Advised.{Advised}
 use Rattle.advisory.proofs.EveryBelow.{below, same_below, iff_below}
+use Rattle.advisory.specs.declared.CodeError.{CodeError}
+use Rattle.advisory.specs.declared.Instruction.{Instruction}
 
 abbrev pub within : ℕ → ℕ → ℕ → Bool
 within low high code = leb low code && leb code high
@@ -35,23 +36,23 @@ pub not_judged_range : (code : ℕ) → code < 256 → among code not_judged_cod
 unfolding not_judged
 not_judged_range = same_below (λ (k : ℕ). among k not_judged_codes) (within 17 18) 256 tt
 
-pub listing_past_16 : (code : ℕ) → code < 256 → 16 < code → catalogue_of code ≡ cond (within 17 18 code) Listing.NotJudged Listing.Unknown
+pub listing_past_16 : (code : ℕ) → code < 256 → 16 < code → catalogue_of code ≡ cond (within 17 18 code) (Err CodeError.NotJudged) (Err CodeError.Unknown)
 unfolding catalogue_of
 listing_past_16 code h past =
     simp (article_range code h, not_judged_range code h, le-leb 1 code (omega arith), lt-leb code 16 past)
 
-abbrev pub is_article : Listing → Bool
-is_article (Listing.Article advice) = true
-is_article Listing.NotJudged = false
-is_article Listing.Unknown = false
+abbrev pub is_article : Result Advice CodeError → Bool
+is_article (Ok advice) = true
+is_article (Err CodeError.NotJudged) = false
+is_article (Err CodeError.Unknown) = false
 
-pub article_iff : (l : Listing) → ((advice : Advice) × (l ≡ Listing.Article advice)) ↔ T (is_article l)
-article_iff l = (λ p. subst⁻¹ (λ (x : Listing). T (is_article x)) p.1 tt, found l)
+pub article_iff : (l : Result Advice CodeError) → ((advice : Advice) × (l ≡ Ok advice)) ↔ T (is_article l)
+article_iff l = (λ p. subst⁻¹ (λ (x : Result Advice CodeError). T (is_article x)) p.1 tt, found l)
   where
-    found : (x : Listing) → T (is_article x) → (advice : Advice) × (x ≡ Listing.Article advice)
-    found (Listing.Article advice) t = (advice, refl)
-    found Listing.NotJudged t = absurd t
-    found Listing.Unknown t = absurd t
+    found : (x : Result Advice CodeError) → T (is_article x) → (advice : Advice) × (x ≡ Ok advice)
+    found (Ok advice) t = (advice, refl)
+    found (Err CodeError.NotJudged) t = absurd t
+    found (Err CodeError.Unknown) t = absurd t
 
 -- The catalogue lists exactly the codes 1 to 16.
 pub lists_1_to_16 : (code : ℕ) → code < 256 → Listed code ↔ CodeWithin 1 16 code
@@ -60,15 +61,15 @@ lists_1_to_16 code h =
     Iff.trans (article_iff (catalogue_of code))
     (Iff.trans (iff_below (λ (k : ℕ). is_article (catalogue_of k)) (within 1 16) 256 tt code h) (within_iff 1 16 code))
 
-abbrev stands : ℕ → Advised → Bool
-stands code (Advised.Judged i) = within 1 16 code
-stands code Advised.NotJudged = within 17 18 code
-stands code Advised.Unknown = not (within 1 18 code)
+abbrev stands : ℕ → Result Instruction CodeError → Bool
+stands code (Ok i) = within 1 16 code
+stands code (Err CodeError.NotJudged) = within 17 18 code
+stands code (Err CodeError.Unknown) = not (within 1 18 code)
 
-stood : (code : ℕ) (a : Advised) → T (stands code a) → Standing code a
-stood code (Advised.Judged i) t = (within_iff 1 16 code).0 t
-stood code Advised.NotJudged t = (within_iff 17 18 code).0 t
-stood code Advised.Unknown t =
+stood : (code : ℕ) (a : Result Instruction CodeError) → T (stands code a) → Standing code a
+stood code (Ok i) t = (within_iff 1 16 code).0 t
+stood code (Err CodeError.NotJudged) t = (within_iff 17 18 code).0 t
+stood code (Err CodeError.Unknown) t =
     ⊎_elim (λ low. inl (nleb→lt 1 code low)) (λ high. inr (nleb→lt code 18 high)) (and_no (leb 1 code) (leb code 18) t)
 
 -- The codes 1 to 16 are judged, 17 and 18 are not, and the codes outside 1 to 18 are unknown.

@@ -1,4 +1,5 @@
 -- Every instruction keeps document 01's limits on strength, delay and target: one test computed over all codes.
+use Rattle.std.specs.Prelude.{Err, Ok, Result}
 use mathlib.Core.Path.{◌≡◌, subst}
 use mathlib.Core.Bool.{Bool, true, ◌&&◌}
 use Prim.Native.Nat.{ℕ, ◌<◌}
@@ -14,9 +15,8 @@ use Rattle.advisory.specs.inner.Codes.{InLimits}
 use Rattle.advisory.specs.declared.Target.{Target}
 use Rattle.advisory.specs.declared.Target.TheVariants.{Rate, Current}
 use Rattle.advisory.specs.declared.Instruction.{Instruction}
-use Rattle.advisory.specs.declared.Advised.{Advised}
-use Rattle.advisory.specs.declared.Advised.TheVariants.{Judged, NotJudged, Unknown}
 use Rattle.advisory.proofs.EveryBelow.{below}
+use Rattle.advisory.specs.declared.CodeError.{CodeError}
 
 abbrev target_above : Target → Bool
 target_above (Rate speed) = le_z (neg_ℤ (pos max_speed)) speed
@@ -51,12 +51,12 @@ limited i h =
       target_to = target_to i.target target.1;
     }
 
-abbrev keeps : Advised → Bool
-keeps (Judged i) = limits i
-keeps NotJudged = true
-keeps Unknown = true
+abbrev keeps : Result Instruction CodeError → Bool
+keeps (Ok i) = limits i
+keeps (Err CodeError.NotJudged) = true
+keeps (Err CodeError.Unknown) = true
 
-pub in_limits : (code : ℕ) → code < 256 → (i : Instruction) → advised_of code ≡ Judged i → InLimits i
+pub in_limits : (code : ℕ) → code < 256 → (i : Instruction) → advised_of code ≡ Ok i → InLimits i
 unfolding advised_of catalogue_of article_entries not_judged reaction_table
 in_limits code h i e =
-    limited i (subst (λ (a : Advised). T (keeps a)) e (below (λ (k : ℕ). keeps (advised_of k)) 256 tt code h))
+    limited i (subst (λ (a : Result Instruction CodeError). T (keeps a)) e (below (λ (k : ℕ). keeps (advised_of k)) 256 tt code h))

@@ -1,7 +1,7 @@
 -- A test of equality on instructions, field by field, so that a rule about instructions can be computed.
 use mathlib.Core.Path.{◌≡◌, refl, ap}
 use mathlib.Core.Bool.{Bool, true, false, ◌&&◌}
-use mathlib.Core.Option.{Option, none, some}
+use Rattle.std.specs.Prelude.{Option, Some, None}
 use lib.Dec.{T, eqb, eqb→eq}
 use lib.IntN.{ℤ, pos, negsuc}
 use mir.Facts.{and_yes}
@@ -66,13 +66,13 @@ same_instruction_lem i j h =
     }
 
 abbrev pub same_optional : Option Instruction → Option Instruction → Bool
-same_optional none none = true
-same_optional none (some j) = false
-same_optional (some i) none = false
-same_optional (some i) (some j) = same_instruction i j
+same_optional None None = true
+same_optional None (Some j) = false
+same_optional (Some i) None = false
+same_optional (Some i) (Some j) = same_instruction i j
 
 pub same_optional_lem : (a b : Option Instruction) → T (same_optional a b) → a ≡ b
-same_optional_lem none none h = refl
-same_optional_lem none (some j) h = absurd h
-same_optional_lem (some i) none h = absurd h
-same_optional_lem (some i) (some j) h = ap {B = Option Instruction} some (same_instruction_lem i j h)
+same_optional_lem None None h = refl
+same_optional_lem None (Some j) h = absurd h
+same_optional_lem (Some i) None h = absurd h
+same_optional_lem (Some i) (Some j) h = ap {B = Option Instruction} Some (same_instruction_lem i j h)

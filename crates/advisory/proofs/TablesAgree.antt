@@ -1,4 +1,5 @@
 -- Catalogue and reaction table have the same codes, and together they are Table 1: each by one test computed over all codes or all rows.
+use Rattle.std.specs.Prelude.{None, Option, Some}
 use mathlib.Core.Path.{◌≡◌, refl, subst, subst⁻¹}
 use mathlib.Core.Logic.Iff
 use mathlib.Core.Logic.{◌↔◌, ⊎_elim}
@@ -15,8 +16,6 @@ use Rattle.advisory.specs.ReactionTable.{reaction_table, row_at, rows_with}
 use Rattle.advisory.specs.Advised.{advised_of, instruction_in}
 use Rattle.advisory.specs.Table1.{g, g_over, table1, numbered, printed_at, InNeitherTable}
 use Rattle.advisory.specs.declared.Reaction.{Reaction}
-use Rattle.advisory.specs.declared.Reacted.{Reacted}
-use Rattle.advisory.specs.declared.Reacted.TheVariants.{Row, Missing}
 use Rattle.advisory.proofs.EveryBelow.{below, iff_below}
 use Rattle.advisory.proofs.Rows.{row_past}
 use Rattle.advisory.proofs.CodeRanges.{is_article, article_iff}
@@ -52,21 +51,21 @@ listed_has_one_row code h =
     (Iff.trans (iff_below (λ (k : ℕ). is_article (catalogue_of k)) (λ (k : ℕ). eqb (rows_with reaction_table k) 1) 256 tt code h)
     (equal_iff (rows_with reaction_table code) 1))
 
-abbrev is_listed : Reacted → Bool
-is_listed (Row r) = is_article (catalogue_of r.code)
-is_listed Missing = true
+abbrev is_listed : Option Reaction → Bool
+is_listed (Some r) = is_article (catalogue_of r.code)
+is_listed None = true
 
 -- The catalogue lists the code of every row.
-pub row_is_listed : (place : ℕ) (r : Reaction) → row_at reaction_table place ≡ Row r → Listed r.code
+pub row_is_listed : (place : ℕ) (r : Reaction) → row_at reaction_table place ≡ Some r → Listed r.code
 unfolding catalogue_of article_entries not_judged reaction_table
 row_is_listed place r e = go (dec_lt place 16)
   where
     go : Dec (place < 16) → Listed r.code
     go (yes h) =
         (article_iff (catalogue_of r.code)).1
-        (subst (λ (x : Reacted). T (is_listed x)) e (below (λ (k : ℕ). is_listed (row_at reaction_table k)) 16 tt place h))
+        (subst (λ (x : Option Reaction). T (is_listed x)) e (below (λ (k : ℕ). is_listed (row_at reaction_table k)) 16 tt place h))
     go (no h) =
-        let past : Missing ≡ row_at reaction_table place = row_past reaction_table place (omega arith) in
+        let past : None ≡ row_at reaction_table place = row_past reaction_table place (omega arith) in
         let z : ◌≡◌ {A = ℕ} 0 1 = cc in
         absurd (omega arith)
 

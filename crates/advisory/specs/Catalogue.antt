@@ -1,13 +1,12 @@
 -- The catalogue of document 01: "The catalogue gives the sense and target of each code."
-use Rattle.std.specs.Prelude.{◌≡◌, Bool, false, cond, ◌||◌, List, [], ◌∷◌, map, ℕ, ◌%◌, ◌≤◌, eqb, ℤ, pos, neg_ℤ}
+use Rattle.std.specs.Prelude.{◌≡◌, Bool, false, cond, ◌||◌, List, [], ◌∷◌, map, ℕ, ◌%◌, ◌≤◌, eqb, ℤ, pos, neg_ℤ, Err, Ok, Result}
 use Prim.Native.String.{String}
 use Rattle.advisory.specs.declared.Sense.{Sense}
 use Rattle.advisory.specs.declared.Sense.TheVariants.{Climb, Descend}
 use Rattle.advisory.specs.declared.Target.{Target}
 use Rattle.advisory.specs.declared.Target.TheVariants.{Rate, Current}
 use Rattle.advisory.specs.declared.Advice.{Advice}
-use Rattle.advisory.specs.declared.Listing.{Listing}
-use Rattle.advisory.specs.declared.Listing.TheVariants.{Article, NotJudged, Unknown}
+use Rattle.advisory.specs.declared.CodeError.{CodeError}
 
 -- A target upwards, level or downwards. "1 ft/min is 1 grain per second."
 abbrev pub up : ℕ → Target
@@ -92,14 +91,14 @@ abbrev pub not_judged_codes : List ℕ
 not_judged_codes = map (λ (n : Named). n.code) not_judged
 
 -- What the catalogue says of a code: its sense and target, named but not judged, or unknown.
-unfoldable pub catalogue_of : ℕ → Listing
+unfoldable pub catalogue_of : ℕ → Result Advice CodeError
 catalogue_of code =
-    cond (among code article_codes) (Article (record { sense = sense_of_code code; target = target_of code }))
-    (cond (among code not_judged_codes) NotJudged Unknown)
+    cond (among code article_codes) (Ok (record { sense = sense_of_code code; target = target_of code }))
+    (cond (among code not_judged_codes) (Err CodeError.NotJudged) (Err CodeError.Unknown))
 
 -- The catalogue lists a code: it gives it a sense and a target.
 abbrev pub Listed : ℕ → Type 0
-Listed code = (advice : Advice) × (catalogue_of code ≡ Article advice)
+Listed code = (advice : Advice) × (catalogue_of code ≡ Ok advice)
 
 -- A code of a range, as 1 to 16.
 abbrev pub CodeWithin : ℕ → ℕ → ℕ → Type 0

@@ -1,8 +1,6 @@
 -- The reaction table of document 01: "the reaction table holds one row per code: strength and delay."
-use Rattle.std.specs.Prelude.{cond, List, [], ◌∷◌, ℕ, zero, suc, ◌+◌, eqb}
+use Rattle.std.specs.Prelude.{slice_get, cond, List, [], ◌∷◌, ℕ, zero, suc, ◌+◌, eqb, None, Option, Some}
 use Rattle.advisory.specs.declared.Reaction.{Reaction}
-use Rattle.advisory.specs.declared.Reacted.{Reacted}
-use Rattle.advisory.specs.declared.Reacted.TheVariants.{Row, Missing}
 
 -- A row: code, strength in grains/s² and delay in seconds.
 abbrev pub row : ℕ → ℕ → ℕ → Reaction
@@ -30,15 +28,13 @@ reaction_table =
     ∷ []
 
 -- The row at a place, counted from 0.
-abbrev pub row_at : List Reaction → ℕ → Reacted
-row_at [] place = Missing
-row_at (r ∷ rows) zero = Row r
-row_at (r ∷ rows) (suc place) = row_at rows place
+abbrev pub row_at : List Reaction → ℕ → Option Reaction
+row_at rows place = slice_get rows place
 
 -- The first row with this code.
-abbrev pub row_of : List Reaction → ℕ → Reacted
-row_of [] code = Missing
-row_of (r ∷ rows) code = cond (eqb r.code code) (Row r) (row_of rows code)
+abbrev pub row_of : List Reaction → ℕ → Option Reaction
+row_of [] code = None
+row_of (r ∷ rows) code = cond (eqb r.code code) (Some r) (row_of rows code)
 
 -- How many rows have this code.
 abbrev pub rows_with : List Reaction → ℕ → ℕ

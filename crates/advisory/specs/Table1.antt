@@ -1,8 +1,6 @@
 -- Table 1 of the article: the advisories and their modelling variables.
-use Rattle.std.specs.Prelude.{◌≡◌, List, [], ◌∷◌, ℕ, zero, suc, ◌/◌}
-use Rattle.std.proofs.Math.Option.{Option, none, map}
+use Rattle.std.specs.Prelude.{option_map, slice_get, None, Option, ◌≡◌, List, [], ◌∷◌, ℕ, zero, suc, ◌/◌, Err}
 use Prim.Native.String.{String}
-use Rattle.std.proofs.Math.ListN.{get_elem?}
 use Rattle.advisory.specs.Catalogue.{up, level, down, catalogue_of}
 use Rattle.advisory.specs.ReactionTable.{reaction_table, rows_with}
 use Rattle.advisory.specs.Advised.{advised_of}
@@ -10,9 +8,8 @@ use Rattle.advisory.specs.declared.Sense.{Sense}
 use Rattle.advisory.specs.declared.Sense.TheVariants.{Climb, Descend}
 use Rattle.advisory.specs.declared.Target.{Target}
 use Rattle.advisory.specs.declared.Target.TheVariants.{Current}
-use Rattle.advisory.specs.declared.Listing.{Listing}
 use Rattle.advisory.specs.declared.Instruction.{Instruction}
-use Rattle.advisory.specs.declared.Advised.{Advised}
+use Rattle.advisory.specs.declared.CodeError.{CodeError}
 
 -- "The course takes g as 1,932 grains/s²."
 abbrev pub g : ℕ
@@ -57,8 +54,8 @@ table1 =
 
 -- The advisory of a code: the code is the place in Table 1, counted from 1.
 abbrev pub table1_at : ℕ → Option Advisory
-table1_at zero = none
-table1_at (suc before) = get_elem? table1 before
+table1_at zero = None
+table1_at (suc before) = slice_get table1 before
 
 -- The names in order, numbered on from a code.
 abbrev pub numbered : ℕ → List Advisory → List (ℕ × String)
@@ -71,11 +68,11 @@ printed a = record { sense = a.sense; target = a.target; strength = a.strength; 
 
 -- What Table 1 tells the pilot of a code.
 abbrev pub printed_at : ℕ → Option Instruction
-printed_at code = map printed (table1_at code)
+printed_at code = option_map printed (table1_at code)
 
 -- "Codes 17 (COC) and 18 (MTLO) .. are in neither table": neither sense and target, nor strength and delay, here or in the article.
 pub record InNeitherTable (code : ℕ) : Type 0 where
-  pub not_listed : catalogue_of code ≡ Listing.NotJudged
+  pub not_listed : catalogue_of code ≡ Err CodeError.NotJudged
   pub no_row : rows_with reaction_table code ≡ 0
-  pub not_in_table_1 : table1_at code ≡ none
-  pub not_judged_lem : advised_of code ≡ Advised.NotJudged
+  pub not_in_table_1 : table1_at code ≡ None
+  pub not_judged_lem : advised_of code ≡ Err CodeError.NotJudged

@@ -28,10 +28,9 @@ pub struct Advice {
     pub target: Target,
 }
 
-// What the catalogue says of a code.
-#[derive(Clone, Copy)]
-pub enum Listing {
-    Article(Advice),
+// Why a code is not judged.
+#[derive(Clone, Copy, PartialEq, Eq)]
+pub enum CodeError {
     // Named, and never judged: COC and MTLO.
     NotJudged,
     Unknown,
@@ -45,13 +44,6 @@ pub struct Reaction {
     pub delay: u64,
 }
 
-// What a look-up in the reaction table finds.
-#[derive(Clone, Copy)]
-pub enum Reacted {
-    Row(Reaction),
-    Missing,
-}
-
 // All that a judged code tells the pilot.
 #[derive(Clone, Copy)]
 pub struct Instruction {
@@ -59,14 +51,6 @@ pub struct Instruction {
     pub target: Target,
     pub strength: u64,
     pub delay: u64,
-}
-
-// What a code byte advises.
-#[derive(Clone, Copy)]
-pub enum Advised {
-    Judged(Instruction),
-    NotJudged,
-    Unknown,
 }
 
 // Odd codes descend, even codes climb.
@@ -81,6 +65,7 @@ fn sense_of_code(code: u8) -> Sense
 }
 
 // The catalogue asks for article codes only; for others the current speed stands in.
+#[tactic(auto, unfolding(crate::specs::Catalogue::article_entries))]
 fn target_of(code: u8) -> Target
     ensures { result ≡ target_of code }
 {
@@ -106,17 +91,18 @@ fn target_of(code: u8) -> Target
 }
 
 // The article's codes, the codes that are named but not judged, and the unknown ones.
-pub fn catalogue(code: u8) -> Listing
+#[tactic(auto, using(crate::proofs::CodeRanges::article_range, crate::proofs::CodeRanges::not_judged_range, crate::proofs::CodeRanges::listing_past_16), unfolding(crate::specs::Catalogue::catalogue_of))]
+pub fn catalogue(code: u8) -> Result<Advice, CodeError>
     ensures { result ≡ catalogue_of code }
 {
     match code {
         1..=16 => {
             let sense = sense_of_code(code);
             let target = target_of(code);
-            Listing::Article(Advice { sense, target })
+            Ok(Advice { sense, target })
         }
-        17..=18 => Listing::NotJudged,
-        _ => Listing::Unknown,
+        17..=18 => Err(CodeError::NotJudged),
+        _ => Err(CodeError::Unknown),
     }
 }
 
@@ -207,51 +193,37 @@ const REACTION_TABLE: [Reaction; ROWS] = [
 ];
 
 // The row at a place, counted from 0; no row from the table's end on.
-pub fn reaction_row(place: usize) -> Reacted
+#[tactic(auto, unfolding(crate::specs::ReactionTable::reaction_table))]
+pub fn reaction_row(place: usize) -> Option<Reaction>
     ensures { result ≡ row_at reaction_table place }
 {
-    if place < ROWS {
-        let row = REACTION_TABLE[place];
-        Reacted::Row(row)
-    } else {
-        Reacted::Missing
-    }
+    REACTION_TABLE.get(place).copied()
 }
 
 // The first row with this code.
-pub fn reaction_to(code: u8) -> Reacted
+#[tactic(auto, unfolding(crate::specs::ReactionTable::reaction_table), using(crate::proofs::Rows::search_from))]
+pub fn reaction_to(code: u8) -> Option<Reaction>
     ensures { result ≡ row_of reaction_table code }
 {
-    for place in 0..ROWS {
-        let Reacted::Row(row) = reaction_row(place) else {
-            return Reacted::Missing;
-        };
+    for row in &REACTION_TABLE {
         if row.code == code {
-            return Reacted::Row(row);
+            return Some(*row);
         }
     }
-    Reacted::Missing
+    None
 }
 
 // Sense, target, strength and delay of a judged code. Each article code has its row, so a row is never missing here.
-pub fn advise(code: u8) -> Advised
+#[tactic(auto, unfolding(crate::specs::Advised::advised_of))]
+pub fn advise(code: u8) -> Result<Instruction, CodeError>
     ensures { result ≡ advised_of code }
 {
-    match catalogue(code) {
-        Listing::Article(advice) => match reaction_to(code) {
-            Reacted::Row(row) => {
-                let sense = advice.sense;
-                let target = advice.target;
-                Advised::Judged(Instruction {
-                    sense,
-                    target,
-                    strength: row.strength,
-                    delay: row.delay,
-                })
-            }
-            Reacted::Missing => Advised::Unknown,
-        },
-        Listing::NotJudged => Advised::NotJudged,
-        Listing::Unknown => Advised::Unknown,
-    }
+    let advice = catalogue(code)?;
+    let row = reaction_to(code).ok_or(CodeError::Unknown)?;
+    Ok(Instruction {
+        sense: advice.sense,
+        target: advice.target,
+        strength: row.strength,
+        delay: row.delay,
+    })
 }

@@ -1,171 +1,115 @@
 // The state that a sheet keeps, and the reply to each record. `specs/` says what both are.
 #![tactic(auto)]
 
-ghost use Rattle.std.specs.Prelude.{◌≡◌};
-ghost use Rattle.judge.specs.Answers.{answer_record};
-ghost use Rattle.reply.specs.AnswerBytes.{reply_record};
-ghost use Rattle.answering.specs.States.{starting_state, with_puck, with_delay_acceleration, with_settings, with_encounter, state_after};
+ghost use Rattle.std.specs.Prelude.{◌≡◌, cond};
+ghost use Rattle.answering.specs.States.{starting_state, state_after};
 ghost use Rattle.answering.specs.Replies.{settings_reply, coded_answer, free_answer, reply_to};
 
-use coded::{CodedQuestion, coded_question};
-use judge::{Answer, judge};
+use coded::coded_question;
+use judge::judge;
 use question::{
-    Encounter, Question, Settings, delay_acceleration_within, encounter_within, puck_within,
+    Encounter, Question, Refusal, Settings, delay_acceleration_within, encounter_within,
+    puck_within,
 };
 use record::Record;
-use reply::Reply;
+use verdict::Verdict;
 
-// The encounter that was accepted last, if any.
-#[derive(Clone, Copy)]
-pub enum LastEncounter {
-    Absent,
-    Present(Encounter),
-}
-
-// What a sheet keeps from record to record. It goes by value, in and out of each step: a refused record's state is then the old one in plain
-// sight, and no step can change it unseen.
+// What a sheet keeps from record to record: the settings, and the encounter that was accepted last, if any. It goes by value, in and out of each step: a
+// refused record's state is then the old one in plain sight, and no step can change it unseen.
 #[derive(Clone, Copy)]
 pub struct State {
     settings: Settings,
-    encounter: LastEncounter,
+    encounter: Option<Encounter>,
 }
 
-pub fn starting_state() -> State
-    ensures { result ≡ starting_state }
-{
-    State {
-        settings: Settings::new(),
-        encounter: LastEncounter::Absent,
+impl State {
+    // What every sheet starts with.
+    pub fn new() -> Self
+        ensures { result ≡ starting_state }
+    {
+        State {
+            settings: Settings::new(),
+            encounter: None,
+        }
     }
-}
 
-fn with_puck(settings: Settings, radius: i64, half_height: i64) -> Settings
-    ensures { result ≡ with_puck settings radius half_height }
-{
-    Settings {
-        radius: radius,
-        half_height: half_height,
-        delay_acceleration: settings.delay_acceleration,
+    // What a record leaves, and its reply, if it has one.
+    #[tactic(auto, unfolding(crate::specs::States::state_after, crate::specs::Replies::reply_to))]
+    pub fn answer(self, given: Record) -> (State, Option<Result<Verdict, Refusal>>)
+        ensures left { result.0 ≡ state_after self given }
+        ensures reply { result.1 ≡ reply_to self given }
+    {
+        match given {
+            Record::Encounter(met) => {
+                let next = State {
+                    encounter: Some(met),
+                    ..self
+                };
+                self.kept_if(encounter_within(met), next, Refusal::EncounterOutside)
+            }
+            Record::Puck(radius, half_height) => {
+                let puck = Settings {
+                    radius,
+                    half_height,
+                    ..self.settings
+                };
+                let next = State {
+                    settings: puck,
+                    ..self
+                };
+                self.kept_if(puck_within(puck), next, Refusal::PuckOutside)
+            }
+            Record::DelayAcceleration(delay_acceleration) => {
+                let delayed = Settings {
+                    delay_acceleration,
+                    ..self.settings
+                };
+                let next = State {
+                    settings: delayed,
+                    ..self
+                };
+                self.kept_if(
+                    delay_acceleration_within(delayed),
+                    next,
+                    Refusal::DelayAccelerationOutside,
+                )
+            }
+            Record::Coded(code, limit) => (self, Some(self.coded_answer(code, limit))),
+            Record::Free(question) => (self, Some(self.free_answer(question))),
+        }
     }
-}
 
-fn with_delay_acceleration(settings: Settings, delay_acceleration: i64) -> Settings
-    ensures { result ≡ with_delay_acceleration settings delay_acceleration }
-{
-    Settings {
-        radius: settings.radius,
-        half_height: settings.half_height,
-        delay_acceleration: delay_acceleration,
-    }
-}
-
-fn with_settings(state: State, settings: Settings) -> State
-    ensures { result ≡ with_settings state settings }
-{
-    let encounter = state.encounter;
-    State {
-        settings: settings,
-        encounter: encounter,
-    }
-}
-
-fn with_encounter(state: State, encounter: Encounter) -> State
-    ensures { result ≡ with_encounter state encounter }
-{
-    let settings = state.settings;
-    State {
-        settings: settings,
-        encounter: LastEncounter::Present(encounter),
-    }
-}
-
-#[tactic(auto, unfolding(crate::specs::States::state_after))]
-pub fn state_after(state: State, given: Record) -> State
-    ensures { result ≡ state_after state given }
-{
-    let settings = state.settings;
-    match given {
-        Record::Encounter(encounter) => if encounter_within(encounter) {
-            with_encounter(state, encounter)
+    // What is accepted is kept, and gets no answer; of what is refused the answer says why.
+    fn kept_if(
+        self,
+        accepted: bool,
+        next: State,
+        why: Refusal,
+    ) -> (State, Option<Result<Verdict, Refusal>>)
+        ensures left { result.0 ≡ cond accepted next self }
+        ensures reply { result.1 ≡ settings_reply accepted why }
+    {
+        if accepted {
+            (next, None)
         } else {
-            state
-        },
-        Record::Puck(radius, half_height) => {
-            let puck = with_puck(settings, radius, half_height);
-            if puck_within(puck) {
-                with_settings(state, puck)
-            } else {
-                state
-            }
+            (self, Some(Err(why)))
         }
-        Record::DelayAcceleration(e) => {
-            let delayed = with_delay_acceleration(settings, e);
-            if delay_acceleration_within(delayed) {
-                with_settings(state, delayed)
-            } else {
-                state
-            }
-        }
-        Record::Coded(_, _) => state,
-        Record::Free(_) => state,
-        Record::Unknown => state,
     }
-}
 
-// Settings that are accepted get no answer.
-fn settings_reply(accepted: bool, number: u8) -> Reply
-    ensures { result ≡ settings_reply accepted number }
-{
-    if accepted {
-        Reply::Silent
-    } else {
-        Reply::Answered(Answer::Refused(number))
+    #[tactic(auto, unfolding(crate::specs::Replies::coded_answer))]
+    fn coded_answer(self, code: u8, limit: i64) -> Result<Verdict, Refusal>
+        ensures { result ≡ coded_answer self.encounter self.settings code limit }
+    {
+        let present = self.encounter.ok_or(Refusal::NoEncounter)?;
+        let question = coded_question(code, present.speed, limit)?;
+        judge(present, self.settings, question)
     }
-}
 
-#[tactic(auto, unfolding(crate::specs::Replies::coded_answer))]
-fn coded_answer(encounter: LastEncounter, settings: Settings, code: u8, limit: i64) -> Answer
-    ensures { answer_record result ≡ answer_record (coded_answer encounter settings code limit) }
-{
-    match encounter {
-        LastEncounter::Absent => Answer::Refused(7),
-        LastEncounter::Present(present) => match coded_question(code, present.speed, limit) {
-            CodedQuestion::Asked(question) => judge(present, settings, question),
-            CodedQuestion::Refused(number) => Answer::Refused(number),
-        },
-    }
-}
-
-#[tactic(auto, unfolding(crate::specs::Replies::free_answer))]
-fn free_answer(encounter: LastEncounter, settings: Settings, question: Question) -> Answer
-    ensures { answer_record result ≡ answer_record (free_answer encounter settings question) }
-{
-    match encounter {
-        LastEncounter::Absent => Answer::Refused(7),
-        LastEncounter::Present(present) => judge(present, settings, question),
-    }
-}
-
-#[tactic(auto, unfolding(crate::specs::Replies::reply_to))]
-pub fn reply_to(state: State, given: Record) -> Reply
-    ensures { reply_record result ≡ reply_record (reply_to state given) }
-{
-    let settings = state.settings;
-    let encounter = state.encounter;
-    match given {
-        Record::Encounter(met) => settings_reply(encounter_within(met), 1),
-        Record::Puck(radius, half_height) => settings_reply(
-            puck_within(with_puck(settings, radius, half_height)),
-            2,
-        ),
-        Record::DelayAcceleration(e) => settings_reply(
-            delay_acceleration_within(with_delay_acceleration(settings, e)),
-            3,
-        ),
-        Record::Coded(code, limit) => Reply::Answered(coded_answer(
-            encounter, settings, code, limit,
-        )),
-        Record::Free(question) => Reply::Answered(free_answer(encounter, settings, question)),
-        Record::Unknown => Reply::Silent,
+    #[tactic(auto, unfolding(crate::specs::Replies::free_answer))]
+    fn free_answer(self, question: Question) -> Result<Verdict, Refusal>
+        ensures { result ≡ free_answer self.encounter self.settings question }
+    {
+        let present = self.encounter.ok_or(Refusal::NoEncounter)?;
+        judge(present, self.settings, question)
     }
 }

@@ -1,5 +1,6 @@
 -- The band of an accepted two-sided question: it is clear exactly if the intruder's height is outside the band at every rational time of the window. What 14 tests gives
 -- a ≤ b (`strengths_in_order`), what 15 tests that the targets are in order (`targets_in_order`), 2 gives k ≥ 1. Assumes nothing.
+use Rattle.std.specs.Prelude.{Ok, Result}
 use mathlib.Core.Path.{◌≡◌, sym, subst}
 use mathlib.Core.Bool.{true, not, ◌&&◌, ◌||◌}
 use mathlib.Core.List.{[], ◌∷◌}
@@ -23,7 +24,6 @@ use Rattle.path.specs.Letters.{k, q, a, upper_q, b}
 use Rattle.question.specs.declared.Encounter.{Encounter}
 use Rattle.question.specs.declared.Settings.{Settings}
 use Rattle.question.specs.declared.Question.{Question}
-use Rattle.question.specs.declared.Checked.{Checked}
 use Rattle.question.specs.Refusals.{sense_of, two_sided, strengths_ordered, strengths_within, targets_ordered, upper_target_in_sense, refusal}
 use Rattle.question.proofs.WithinLimits.{asked_where, within_limits}
 use Rattle.sensed.specs.Sensed.{sensed_question}
@@ -31,15 +31,15 @@ use Rattle.sensed.proofs.AcceptedSizes.{accepted_upper_sizes}
 use Rattle.verdict.specs.declared.Verdict.{Verdict}
 use Rattle.verdict.specs.declared.Verdict.TheVariants.{Clear, Conflict, Conflicts}
 use Rattle.verdict.specs.Verdicts.{verdict}
-use Rattle.judge.specs.declared.Answer.{Answer}
 use Rattle.judge.specs.Answers.{answer}
 use Rattle.judge.specs.Demand3.{SaysConflict}
 use Rattle.judge.proofs.Demand3.{judged, two_sided_exactly}
 use Rattle.band.specs.Band.{lower_height, upper_height, NoHigher, AlwaysOutside, SaysClear}
 use Rattle.band.proofs.PathOrder as order
 use Rattle.band.proofs.BandTheorem.{outside_exactly}
+use Rattle.question.specs.declared.refusal.Refusal.{Refusal}
 
-clear_no_conflict : (v : Verdict) → SaysClear (Answer.Judged v) ↔ (¬ SaysConflict v)
+clear_no_conflict : (v : Verdict) → SaysClear (Ok v) ↔ (¬ SaysConflict v)
 clear_no_conflict (Clear sides) = (λ _ c. c, λ _. tt)
 clear_no_conflict (Conflict t) = (λ c. absurd c, λ n. n tt)
 clear_no_conflict (Conflicts t u) = (λ c. absurd c, λ n. n tt)
@@ -69,7 +69,7 @@ module _ (x : Encounter) (y : Settings) (z : Question) (two : two_sided z ≡ tr
   targets_in_order t = sensed_order (sense_of z) z.target z.upper_target x.intruder_speed (le_z_yes (asked_where (two_sided z) (targets_ordered z) t two))
 
 -- ---- the theorems, whose only premises are an accepted question and that it is two-sided
-module _ (x : Encounter) (y : Settings) (z : Question) (accepted : refusal x y z ≡ Checked.Accepted) (two : two_sided z ≡ true) where
+module _ (x : Encounter) (y : Settings) (z : Question) (accepted : refusal x y z ≡ Ok tt) (two : two_sided z ≡ true) where
   abbrev s : SensedQuestion
   s = sensed_question x y z
 
@@ -89,6 +89,6 @@ module _ (x : Encounter) (y : Settings) (z : Question) (accepted : refusal x y z
 
   pub clear_outside_band : SaysClear (answer x y z) ↔ AlwaysOutside (sensed_question x y z)
   clear_outside_band =
-      subst (λ (r : Answer). SaysClear r ↔ AlwaysOutside s) (sym (judged x y z accepted))
+      subst (λ (r : Result Verdict Refusal). SaysClear r ↔ AlwaysOutside s) (sym (judged x y z accepted))
       (Iff.trans (clear_no_conflict (verdict z s)) (Iff.trans (not_either (two_sided_exactly x y z accepted two))
       (Iff.symm (outside_exactly s strengths targets (accepted_upper_sizes x y z accepted two).b_lo thickness))))

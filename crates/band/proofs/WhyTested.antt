@@ -1,6 +1,7 @@
 -- Why 14 and 15 are tested: two questions, refused by them, with conflict times on both sides, and yet always outside the band. The ownship climbs from level flight to
 -- 10 with strength 2, f = t²; the intruder is 7 above, k is 1, the limit 4 s. With upper strength 1 (14), j = t²/2; with upper target 2 (15), j = 2 × t − 1 from
 -- 1 s on. Up to 3 s j is below 6 = 7 − 1, after it f above 8 = 7 + 1: the upper path has not yet come to the intruder when the lower one has passed it. Assumes nothing.
+use Rattle.std.specs.Prelude.{Err, Ok}
 use mathlib.Core.Path.{◌≡◌, refl, sym, subst}
 use mathlib.Core.List.{[], ◌∷◌}
 use mathlib.Core.Logic.{inl, inr, ⊎_elim}
@@ -22,10 +23,10 @@ use Rattle.path.proofs.SideProfiles.{lower_scale, upper_scale}
 use Rattle.question.specs.declared.Encounter.{Encounter}
 use Rattle.question.specs.declared.Settings.{Settings}
 use Rattle.question.specs.declared.Question.{Question}
-use Rattle.question.specs.declared.Checked.{Checked}
 use Rattle.question.specs.Refusals.{refusal}
 use Rattle.sensed.specs.Sensed.{sensed_question}
 use Rattle.band.specs.Band.{lowered, raised, Below, Above, Outside, AlwaysOutside}
+use Rattle.question.specs.declared.refusal.Refusal.{Refusal}
 
 abbrev pub above_7 : Encounter
 above_7 = record { distance = pos 0; height = pos 7; closing_speed = pos 0; speed = pos 0; intruder_speed = pos 0 }
@@ -80,7 +81,7 @@ module _ (s : SensedQuestion) (m : ℕ) where
   upper_to : {j : ℤ} → j ≤ℤ upper_path s (3 * m) m → j ≤ℤ (pos m *ℤ pos m *ℤ upper_path s 3 1)
   upper_to l = ≤ℤ_trans l (≤ℤ-of-≡ (at_three (upper_path s) (upper_scale s) m))
 
-pub needs_14 : (refusal above_7 puck_1 weak ≡ Checked.Refused 14) × Fails above_7 puck_1 weak
+pub needs_14 : (refusal above_7 puck_1 weak ≡ Err Refusal.StrengthOutside) × Fails above_7 puck_1 weak
 unfolding refusal sensed_question advice_gain delay_height continued
 needs_14 =
     let s = sensed_question above_7 puck_1 weak in
@@ -93,7 +94,7 @@ needs_14 =
       },
     )
 
-pub needs_15 : (refusal above_7 puck_1 slow ≡ Checked.Refused 15) × Fails above_7 puck_1 slow
+pub needs_15 : (refusal above_7 puck_1 slow ≡ Err Refusal.UpperTargetBelow) × Fails above_7 puck_1 slow
 unfolding refusal sensed_question advice_gain delay_height continued
 needs_15 =
     let s = sensed_question above_7 puck_1 slow in
@@ -107,6 +108,6 @@ needs_15 =
     )
 
 -- with upper strength and target no less than strength and target, the question is accepted
-pub accepted_with_order : refusal above_7 puck_1 (climb_to_10 (pos 10) (pos 2)) ≡ Checked.Accepted
+pub accepted_with_order : refusal above_7 puck_1 (climb_to_10 (pos 10) (pos 2)) ≡ Ok tt
 unfolding refusal
 accepted_with_order = refl

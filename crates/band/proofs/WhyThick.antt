@@ -1,5 +1,6 @@
 -- Why k is at least 1, which 2 tests: with k 0 the band may be one line, and the intruder's height on it at no rational time. The ownship climbs from level flight to 10
 -- with strength 2, upper target and strength the same: f = j = t². The intruder is 2 above, and √2 is no n/m. Assumes nothing.
+use Rattle.std.specs.Prelude.{Err}
 use mathlib.Core.Path.{◌≡◌, refl, ap, subst, sym, ◌∙◌}
 use mathlib.Core.List.{[], ◌∷◌}
 use mathlib.Core.Logic.{◌⊎◌, inl, inr, ⊎_elim}
@@ -18,11 +19,11 @@ use Rattle.path.proofs.Continued.{continued_after}
 use Rattle.question.specs.declared.Encounter.{Encounter}
 use Rattle.question.specs.declared.Settings.{Settings}
 use Rattle.question.specs.declared.Question.{Question}
-use Rattle.question.specs.declared.Checked.{Checked}
 use Rattle.question.specs.Refusals.{refusal}
 use Rattle.sensed.specs.Sensed.{sensed_question}
 use Rattle.band.specs.Band.{lowered, raised, Outside}
 use Rattle.band.proofs.WhyTested.{climb_to_10, Fails}
+use Rattle.question.specs.declared.refusal.Refusal.{Refusal}
 
 -- ---- √2 is no fraction: n² = 2*m² has a solution with smaller numbers
 halves : (n : ℕ) → (h : ℕ) × ((n ≡ h + h) ⊎ (n ≡ suc (h + h)))
@@ -73,7 +74,7 @@ puck_0 = record { radius = pos 0; half_height = pos 0; delay_acceleration = pos 
 abbrev pub one_path : Question
 one_path = climb_to_10 (pos 10) (pos 2)
 
-pub needs_2 : (refusal above_2 puck_0 one_path ≡ Checked.Refused 2) × Fails above_2 puck_0 one_path
+pub needs_2 : (refusal above_2 puck_0 one_path ≡ Err Refusal.PuckOutside) × Fails above_2 puck_0 one_path
 unfolding refusal sensed_question advice_gain delay_height continued
 needs_2 =
     let s = sensed_question above_2 puck_0 one_path in (

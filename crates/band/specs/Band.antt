@@ -1,12 +1,13 @@
 -- "The textbook describes a two-sided verdict as one band from k below the lower path to k above the upper, edges included." (document 02, "The band between the
 -- paths".) s is a sensed question; a time is n/m.
-use Rattle.std.specs.Prelude.{◌⊎◌, ℕ, ◌*◌, ◌≤◌, ℤ, pos, ◌+ℤ◌, ◌-ℤ◌, ◌*ℤ◌, nat_abs, ◌≤ℤ◌, ◌<ℤ◌}
+use Rattle.std.specs.Prelude.{◌⊎◌, ℕ, ◌*◌, ◌≤◌, ℤ, pos, ◌+ℤ◌, ◌-ℤ◌, ◌*ℤ◌, nat_abs, ◌≤ℤ◌, ◌<ℤ◌, Err, Ok, Result}
 use Rattle.path.specs.declared.SensedQuestion.{SensedQuestion}
 use Rattle.path.specs.Letters.{p, k, wh, a, b}
 use Rattle.path.specs.Paths.{lower_path, upper_path}
 use Rattle.path.specs.Window.{InTime, distance_at}
 use Rattle.verdict.specs.declared.Verdict.TheVariants.{Clear, Conflict, Conflicts}
-use Rattle.judge.specs.declared.Answer.{Answer}
+use Rattle.question.specs.declared.refusal.Refusal.{Refusal}
+use Rattle.verdict.specs.declared.Verdict.{Verdict}
 
 -- A height in grains as a fraction: a whole number over a divisor, which is positive where m, a and b are.
 pub record Height : Type 0 where
@@ -61,8 +62,8 @@ abbrev pub AlwaysOutside : SensedQuestion → Type 0
 AlwaysOutside s = (n m : ℕ) → WindowTime s n m → Outside (wh s) (band_at s n m)
 
 -- the answer is clear, whichever sides it names
-abbrev pub SaysClear : Answer → Type 0
-SaysClear (Answer.Judged (Clear sides)) = Unit {0}
-SaysClear (Answer.Judged (Conflict t)) = ⊥
-SaysClear (Answer.Judged (Conflicts t u)) = ⊥
-SaysClear (Answer.Refused number) = ⊥
+abbrev pub SaysClear : Result Verdict Refusal → Type 0
+SaysClear (Ok (Clear sides)) = Unit {0}
+SaysClear (Ok (Conflict t)) = ⊥
+SaysClear (Ok (Conflicts t u)) = ⊥
+SaysClear (Err number) = ⊥

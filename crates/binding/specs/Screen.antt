@@ -1,14 +1,15 @@
 -- A drawing and a screen point as structs of numbers, as they cross to C and Rust, with 0 in the fields that are not used.
-use Rattle.std.specs.Prelude.{List, [], ◌∷◌, ℕ, zero, suc, length, pos, Float}
+use Rattle.std.specs.Prelude.{List, [], ◌∷◌, ℕ, zero, suc, length, pos, Float, Err, Ok, Result}
 use Rattle.instant.specs.declared.Time.{Time}
 use Rattle.screen.specs.declared.Piece.{Piece}
 use Rattle.screen.specs.declared.DrawnPiece.{DrawnPiece}
-use Rattle.screen.specs.declared.PointAnswer.{PointAnswer}
 use Rattle.screen.specs.Floats.{float}
-use Rattle.screen.specs.Drawings.{Content, refused, drawn}
 use Rattle.binding.specs.declared.PieceResult.{PieceResult}
 use Rattle.binding.specs.declared.DrawingResult.{DrawingResult}
 use Rattle.binding.specs.declared.PointResult.{PointResult}
+use Rattle.question.specs.declared.refusal.Refusal.{Refusal}
+use Rattle.screen.specs.declared.ScreenPoint.{ScreenPoint}
+use Rattle.question.specs.RefusalNumbers.{refusal_number}
 
 -- +0
 abbrev pub no_number : Float
@@ -49,11 +50,11 @@ piece_in (p ∷ l) zero = flat_piece p
 piece_in (p ∷ l) (suc i) = piece_in l i
 
 -- "at most three pieces", or the refusal
-abbrev pub flat_content : Content → DrawingResult
-flat_content (refused n) = record { refusal = n; pieces = 0; first = no_piece; second = no_piece; third = no_piece }
-flat_content (drawn l) = record { refusal = 0; pieces = length l; first = piece_in l 0; second = piece_in l 1; third = piece_in l 2 }
+abbrev pub flat_content : Result (List DrawnPiece) Refusal → DrawingResult
+flat_content (Err why) = record { refusal = refusal_number why; pieces = 0; first = no_piece; second = no_piece; third = no_piece }
+flat_content (Ok l) = record { refusal = 0; pieces = length l; first = piece_in l 0; second = piece_in l 1; third = piece_in l 2 }
 
 -- "a time and a height as two 64-bit floats", or the refusal
-abbrev pub flat_point : PointAnswer → PointResult
-flat_point (PointAnswer.Refused n) = record { refusal = n; time = no_number; height = no_number }
-flat_point (PointAnswer.Drawn p) = record { refusal = 0; time = p.time; height = p.height }
+abbrev pub flat_point : Result ScreenPoint Refusal → PointResult
+flat_point (Err why) = record { refusal = refusal_number why; time = no_number; height = no_number }
+flat_point (Ok p) = record { refusal = 0; time = p.time; height = p.height }

@@ -1,4 +1,4 @@
-// The judge's entries as functions of plain numbers: numbers pass as themselves, results as structs of numbers. `binding_c` exports them to C and Rust.
+// The judge's entries with results as structs of numbers. `binding_c` exports them to C and Rust, where a question's numbers pass as themselves.
 #![tactic(auto)]
 
 ghost use Rattle.std.specs.Prelude.{◌≡◌, length};
@@ -13,13 +13,12 @@ ghost use Rattle.binding.specs.Flat.{with_times, flat_verdict, flat_answer, flat
 ghost use Rattle.binding.specs.Flight.{flat_entry, flat_flight};
 ghost use Rattle.binding.specs.Screen.{no_piece, flat_piece, flat_content, flat_point};
 
-use candidate::{FlightAnswer, OneSidedAdvice};
-use flight::PuckEntry;
+use candidate::{Flown, OneSidedAdvice};
 use instant::Time;
-use judge::{Answer, judge, sides_number};
-use question::{Encounter, Question, Settings};
-use screen::{Drawing, DrawnPiece, Piece, PointAnswer};
-use sheet::{Outcome, answer_sheet};
+use judge::{judge, sides_number};
+use question::{Encounter, Question, Refusal, Settings};
+use screen::{Drawing, DrawnPiece, Piece, ScreenPoint};
+use sheet::answer_sheet;
 use verdict::Verdict;
 
 // An answer record's kind and numbers; fields that the kind does not use are 0.
@@ -42,8 +41,8 @@ fn with_times(kind: u64, number: u64, lower: Time, upper: Time) -> JudgeResult
     ensures { result ≡ with_times kind number lower upper }
 {
     JudgeResult {
-        kind: kind,
-        number: number,
+        kind,
+        number,
         lower_seconds: lower.seconds,
         lower_remainder: lower.remainder,
         lower_divisor: lower.divisor,
@@ -68,22 +67,28 @@ fn flat_verdict(verdict: Verdict) -> JudgeResult
     ensures { result ≡ flat_verdict verdict }
 {
     match verdict {
-        Verdict::Clear(sides) => with_times(65, sides_number(sides) as u64, no_time(), no_time()),
+        Verdict::Clear(sides) => with_times(
+            65,
+            u64::from(sides_number(sides)),
+            no_time(),
+            no_time(),
+        ),
         Verdict::Conflict(t) => with_times(66, 0, t, no_time()),
         Verdict::Conflicts(t, u) => with_times(67, 0, t, u),
     }
 }
 
-fn flat_answer(answer: Answer) -> JudgeResult
+fn flat_answer(answer: Result<Verdict, Refusal>) -> JudgeResult
     ensures { result ≡ flat_answer answer }
 {
     match answer {
-        Answer::Judged(verdict) => flat_verdict(verdict),
-        Answer::Refused(number) => with_times(68, number as u64, no_time(), no_time()),
+        Ok(verdict) => flat_verdict(verdict),
+        Err(why) => with_times(68, u64::from(why.number()), no_time(), no_time()),
     }
 }
 
-fn plain_encounter(r: i64, h: i64, c: i64, v: i64, vi: i64) -> Encounter
+// A question's sixteen numbers and an advice's five, as C and Rust pass them.
+pub fn plain_encounter(r: i64, h: i64, c: i64, v: i64, vi: i64) -> Encounter
     ensures { result ≡ plain_encounter r h c v vi }
 {
     Encounter {
@@ -95,7 +100,7 @@ fn plain_encounter(r: i64, h: i64, c: i64, v: i64, vi: i64) -> Encounter
     }
 }
 
-fn plain_settings(p: i64, k: i64, e: i64) -> Settings
+pub fn plain_settings(p: i64, k: i64, e: i64) -> Settings
     ensures { result ≡ plain_settings p k e }
 {
     Settings {
@@ -105,7 +110,7 @@ fn plain_settings(p: i64, k: i64, e: i64) -> Settings
     }
 }
 
-fn plain_question(
+pub fn plain_question(
     sides: i64,
     sense: i64,
     target: i64,
@@ -118,41 +123,6 @@ fn plain_question(
     ensures { result ≡ plain_question sides sense target upper_target strength upper_strength delay limit }
 {
     Question {
-        sides: sides,
-        sense: sense,
-        target: target,
-        upper_target: upper_target,
-        strength: strength,
-        upper_strength: upper_strength,
-        delay: delay,
-        limit: limit,
-    }
-}
-
-// Judges sixteen plain numbers, any 64-bit values.
-pub fn judge_plain(
-    r: i64,
-    h: i64,
-    c: i64,
-    v: i64,
-    vi: i64,
-    p: i64,
-    k: i64,
-    e: i64,
-    sides: i64,
-    sense: i64,
-    target: i64,
-    upper_target: i64,
-    strength: i64,
-    upper_strength: i64,
-    delay: i64,
-    limit: i64,
-) -> JudgeResult
-    ensures { result ≡ flat_answer (answer (plain_encounter r h c v vi) (plain_settings p k e) (plain_question sides sense target upper_target strength upper_strength delay limit)) }
-{
-    let encounter = plain_encounter(r, h, c, v, vi);
-    let settings = plain_settings(p, k, e);
-    let question = plain_question(
         sides,
         sense,
         target,
@@ -161,7 +131,31 @@ pub fn judge_plain(
         upper_strength,
         delay,
         limit,
-    );
+    }
+}
+
+pub fn plain_advice(
+    sense: i64,
+    target: i64,
+    strength: i64,
+    delay: i64,
+    limit: i64,
+) -> OneSidedAdvice
+    ensures { result ≡ plain_advice sense target strength delay limit }
+{
+    OneSidedAdvice {
+        sense,
+        target,
+        strength,
+        delay,
+        limit,
+    }
+}
+
+// Judges a question, any 64-bit values.
+pub fn judge_plain(encounter: Encounter, settings: Settings, question: Question) -> JudgeResult
+    ensures { result ≡ flat_answer (answer encounter settings question) }
+{
     flat_answer(judge(encounter, settings, question))
 }
 
@@ -173,16 +167,16 @@ pub struct SheetResult {
     pub length: u64,
 }
 
-fn flat_outcome(outcome: Outcome) -> SheetResult
+fn flat_outcome(outcome: Result<usize, Refusal>) -> SheetResult
     ensures { result ≡ flat_outcome outcome }
 {
     match outcome {
-        Outcome::Accepted(written) => SheetResult {
+        Ok(written) => SheetResult {
             refusal: 0,
             length: written as u64,
         },
-        Outcome::Refused(number) => SheetResult {
-            refusal: number as u64,
+        Err(why) => SheetResult {
+            refusal: u64::from(why.number()),
             length: 0,
         },
     }
@@ -238,55 +232,58 @@ fn flat_piece(drawn: DrawnPiece) -> PieceResult
     ensures { result ≡ flat_piece drawn }
 {
     let from = drawn.from;
-    let piece = drawn.piece;
-    match piece {
+    match drawn.piece {
         Piece::Arc(square, linear, constant) => PieceResult {
             kind: 2,
             seconds: from.seconds,
             remainder: from.remainder,
             divisor: from.divisor,
-            square: square,
-            linear: linear,
-            constant: constant,
+            square,
+            linear,
+            constant,
         },
         Piece::Straight(linear, constant) => PieceResult {
             kind: 1,
             seconds: from.seconds,
             remainder: from.remainder,
             divisor: from.divisor,
-            square: 0.0,
-            linear: linear,
-            constant: constant,
+            linear,
+            constant,
+            ..no_piece()
         },
     }
 }
 
-fn flat_drawing(drawing: Drawing) -> DrawingResult
+// Refused as a number, with no piece.
+fn refused_drawing(refusal: u64) -> DrawingResult
+    ensures { result ≡ record { refusal = refusal; pieces = 0; first = no_piece; second = no_piece; third = no_piece } }
+{
+    DrawingResult {
+        refusal,
+        pieces: 0,
+        first: no_piece(),
+        second: no_piece(),
+        third: no_piece(),
+    }
+}
+
+fn flat_drawing(drawing: Result<Drawing, Refusal>) -> DrawingResult
     ensures { result ≡ flat_content (content drawing) }
 {
     match drawing {
-        Drawing::Refused(number) => DrawingResult {
-            refusal: number as u64,
-            pieces: 0,
-            first: no_piece(),
-            second: no_piece(),
-            third: no_piece(),
-        },
-        Drawing::One(p) => DrawingResult {
-            refusal: 0,
+        Err(why) => refused_drawing(u64::from(why.number())),
+        Ok(Drawing::One(p)) => DrawingResult {
             pieces: 1,
             first: flat_piece(p),
-            second: no_piece(),
-            third: no_piece(),
+            ..refused_drawing(0)
         },
-        Drawing::Two(p, q) => DrawingResult {
-            refusal: 0,
+        Ok(Drawing::Two(p, q)) => DrawingResult {
             pieces: 2,
             first: flat_piece(p),
             second: flat_piece(q),
-            third: no_piece(),
+            ..refused_drawing(0)
         },
-        Drawing::Three(p, q, r) => DrawingResult {
+        Ok(Drawing::Three(p, q, r)) => DrawingResult {
             refusal: 0,
             pieces: 3,
             first: flat_piece(p),
@@ -296,39 +293,10 @@ fn flat_drawing(drawing: Drawing) -> DrawingResult
     }
 }
 
-// Draws the lower path of sixteen plain numbers, any 64-bit values.
-pub fn screen_drawing(
-    r: i64,
-    h: i64,
-    c: i64,
-    v: i64,
-    vi: i64,
-    p: i64,
-    k: i64,
-    e: i64,
-    sides: i64,
-    sense: i64,
-    target: i64,
-    upper_target: i64,
-    strength: i64,
-    upper_strength: i64,
-    delay: i64,
-    limit: i64,
-) -> DrawingResult
-    ensures { result ≡ flat_content (screen_drawing (plain_encounter r h c v vi) (plain_settings p k e) (plain_question sides sense target upper_target strength upper_strength delay limit)) }
+// Draws the lower path of a question, any 64-bit values.
+pub fn screen_drawing(encounter: Encounter, settings: Settings, question: Question) -> DrawingResult
+    ensures { result ≡ flat_content (screen_drawing encounter settings question) }
 {
-    let encounter = plain_encounter(r, h, c, v, vi);
-    let settings = plain_settings(p, k, e);
-    let question = plain_question(
-        sides,
-        sense,
-        target,
-        upper_target,
-        strength,
-        upper_strength,
-        delay,
-        limit,
-    );
     flat_drawing(screen::screen_drawing(encounter, settings, question))
 }
 
@@ -341,16 +309,16 @@ pub struct PointResult {
     pub height: f64,
 }
 
-fn flat_point(answer: PointAnswer) -> PointResult
+fn flat_point(answer: Result<ScreenPoint, Refusal>) -> PointResult
     ensures { result ≡ flat_point answer }
 {
     match answer {
-        PointAnswer::Refused(number) => PointResult {
-            refusal: number as u64,
+        Err(why) => PointResult {
+            refusal: u64::from(why.number()),
             time: 0.0,
             height: 0.0,
         },
-        PointAnswer::Drawn(point) => PointResult {
+        Ok(point) => PointResult {
             refusal: 0,
             time: point.time,
             height: point.height,
@@ -358,40 +326,15 @@ fn flat_point(answer: PointAnswer) -> PointResult
     }
 }
 
-// The screen point of sixteen plain numbers at a second, any 64-bit values.
+// The screen point of a question at a second, any 64-bit values.
 pub fn screen_point(
-    r: i64,
-    h: i64,
-    c: i64,
-    v: i64,
-    vi: i64,
-    p: i64,
-    k: i64,
-    e: i64,
-    sides: i64,
-    sense: i64,
-    target: i64,
-    upper_target: i64,
-    strength: i64,
-    upper_strength: i64,
-    delay: i64,
-    limit: i64,
+    encounter: Encounter,
+    settings: Settings,
+    question: Question,
     second: u64,
 ) -> PointResult
-    ensures { result ≡ flat_point (screen_point (plain_encounter r h c v vi) (plain_settings p k e) (plain_question sides sense target upper_target strength upper_strength delay limit) second) }
+    ensures { result ≡ flat_point (screen_point encounter settings question second) }
 {
-    let encounter = plain_encounter(r, h, c, v, vi);
-    let settings = plain_settings(p, k, e);
-    let question = plain_question(
-        sides,
-        sense,
-        target,
-        upper_target,
-        strength,
-        upper_strength,
-        delay,
-        limit,
-    );
     flat_point(screen::screen_point(encounter, settings, question, second))
 }
 
@@ -409,78 +352,51 @@ pub struct FlightResult {
 fn yes_number(yes: bool) -> u64
     ensures { result ≡ yes_number yes }
 {
-    if yes {
-        return 1;
-    }
-    0
+    u64::from(yes)
 }
 
-fn flat_entry(obeys: u64, entry: PuckEntry) -> FlightResult
-    ensures { result ≡ flat_entry obeys entry }
+fn flat_flown(flown: Flown) -> FlightResult
+    ensures { result ≡ flat_entry (yes_number flown.obeys) flown.inside }
 {
-    match entry {
-        PuckEntry::Never => FlightResult {
+    let obeys = yes_number(flown.obeys);
+    match flown.inside {
+        None => FlightResult {
             refusal: 0,
-            obeys: obeys,
+            obeys,
             inside: 0,
             second: 0,
         },
-        PuckEntry::During(second) => FlightResult {
+        Some(second) => FlightResult {
             refusal: 0,
-            obeys: obeys,
+            obeys,
             inside: 1,
-            second: second,
+            second,
         },
     }
 }
 
-fn flat_flight(answer: FlightAnswer) -> FlightResult
+fn flat_flight(answer: Result<Flown, Refusal>) -> FlightResult
     ensures { result ≡ flat_flight answer }
 {
     match answer {
-        FlightAnswer::Refused(number) => FlightResult {
-            refusal: number as u64,
+        Ok(flown) => flat_flown(flown),
+        Err(why) => FlightResult {
+            refusal: u64::from(why.number()),
             obeys: 0,
             inside: 0,
             second: 0,
         },
-        FlightAnswer::Flown(obeys, entry) => flat_entry(yes_number(obeys), entry),
     }
 }
 
-fn plain_advice(sense: i64, target: i64, strength: i64, delay: i64, limit: i64) -> OneSidedAdvice
-    ensures { result ≡ plain_advice sense target strength delay limit }
-{
-    OneSidedAdvice {
-        sense: sense,
-        target: target,
-        strength: strength,
-        delay: delay,
-        limit: limit,
-    }
-}
-
-// Judges a candidate's flight: thirteen plain numbers, any 64-bit values, and the flight's numbers, pairs of acceleration and seconds, as many as there are.
+// Judges a candidate's flight: any 64-bit values, and the flight's numbers, pairs of acceleration and seconds, as many as there are.
 pub fn judge_flight(
-    r: i64,
-    h: i64,
-    c: i64,
-    v: i64,
-    vi: i64,
-    p: i64,
-    k: i64,
-    e: i64,
-    sense: i64,
-    target: i64,
-    strength: i64,
-    delay: i64,
-    limit: i64,
+    encounter: Encounter,
+    settings: Settings,
+    advice: OneSidedAdvice,
     flight: &[i64],
 ) -> FlightResult
-    ensures { result ≡ flat_flight (flight_answer (plain_encounter r h c v vi) (plain_settings p k e) (plain_advice sense target strength delay limit) flight.now) }
+    ensures { result ≡ flat_flight (flight_answer encounter settings advice flight.now) }
 {
-    let encounter = plain_encounter(r, h, c, v, vi);
-    let settings = plain_settings(p, k, e);
-    let advice = plain_advice(sense, target, strength, delay, limit);
     flat_flight(candidate::judge_flight(encounter, settings, advice, flight))
 }

@@ -1,4 +1,5 @@
-// The judge for programs in C and Rust: a static library, built by `tools/archive`. Each export is `binding`'s function of the same name, with the same promise.
+// The judge for programs in C and Rust: a static library, built by `tools/archive`. Each export is `binding`'s function of the same name; a question's numbers pass as
+// themselves, one parameter each, since a struct by value crosses differently from machine to machine.
 #![tactic(auto)]
 
 ghost use Rattle.std.specs.Prelude.{◌≡◌, length};
@@ -12,7 +13,10 @@ ghost use Rattle.binding.specs.Flat.{flat_answer, flat_outcome};
 ghost use Rattle.binding.specs.Flight.{flat_flight};
 ghost use Rattle.binding.specs.Screen.{flat_content, flat_point};
 
-use binding::{DrawingResult, FlightResult, JudgeResult, PointResult, SheetResult};
+use binding::{
+    DrawingResult, FlightResult, JudgeResult, PointResult, SheetResult, plain_advice,
+    plain_encounter, plain_question, plain_settings,
+};
 
 // Judges sixteen plain numbers, any 64-bit values.
 #[unsafe(no_mangle)]
@@ -37,22 +41,18 @@ pub extern "C" fn judge_plain(
     ensures { result ≡ flat_answer (answer (plain_encounter r h c v vi) (plain_settings p k e) (plain_question sides sense target upper_target strength upper_strength delay limit)) }
 {
     binding::judge_plain(
-        r,
-        h,
-        c,
-        v,
-        vi,
-        p,
-        k,
-        e,
-        sides,
-        sense,
-        target,
-        upper_target,
-        strength,
-        upper_strength,
-        delay,
-        limit,
+        plain_encounter(r, h, c, v, vi),
+        plain_settings(p, k, e),
+        plain_question(
+            sides,
+            sense,
+            target,
+            upper_target,
+            strength,
+            upper_strength,
+            delay,
+            limit,
+        ),
     )
 }
 
@@ -87,22 +87,18 @@ pub extern "C" fn screen_drawing(
     ensures { result ≡ flat_content (screen_drawing (plain_encounter r h c v vi) (plain_settings p k e) (plain_question sides sense target upper_target strength upper_strength delay limit)) }
 {
     binding::screen_drawing(
-        r,
-        h,
-        c,
-        v,
-        vi,
-        p,
-        k,
-        e,
-        sides,
-        sense,
-        target,
-        upper_target,
-        strength,
-        upper_strength,
-        delay,
-        limit,
+        plain_encounter(r, h, c, v, vi),
+        plain_settings(p, k, e),
+        plain_question(
+            sides,
+            sense,
+            target,
+            upper_target,
+            strength,
+            upper_strength,
+            delay,
+            limit,
+        ),
     )
 }
 
@@ -130,22 +126,18 @@ pub extern "C" fn screen_point(
     ensures { result ≡ flat_point (screen_point (plain_encounter r h c v vi) (plain_settings p k e) (plain_question sides sense target upper_target strength upper_strength delay limit) second) }
 {
     binding::screen_point(
-        r,
-        h,
-        c,
-        v,
-        vi,
-        p,
-        k,
-        e,
-        sides,
-        sense,
-        target,
-        upper_target,
-        strength,
-        upper_strength,
-        delay,
-        limit,
+        plain_encounter(r, h, c, v, vi),
+        plain_settings(p, k, e),
+        plain_question(
+            sides,
+            sense,
+            target,
+            upper_target,
+            strength,
+            upper_strength,
+            delay,
+            limit,
+        ),
         second,
     )
 }
@@ -171,6 +163,9 @@ pub extern "C" fn judge_flight(
     ensures { result ≡ flat_flight (flight_answer (plain_encounter r h c v vi) (plain_settings p k e) (plain_advice sense target strength delay limit) flight.now) }
 {
     binding::judge_flight(
-        r, h, c, v, vi, p, k, e, sense, target, strength, delay, limit, flight,
+        plain_encounter(r, h, c, v, vi),
+        plain_settings(p, k, e),
+        plain_advice(sense, target, strength, delay, limit),
+        flight,
     )
 }

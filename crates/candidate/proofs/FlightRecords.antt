@@ -1,14 +1,15 @@
 -- The number and values of an answer to a flight determine it. Assumes nothing.
-use mathlib.Core.Path.{◌≡◌, refl, ap}
+use Rattle.std.specs.Prelude.{Option, Some, None, Result, Ok, Err}
+use mathlib.Core.Path.{◌≡◌, refl, ap, ap₂}
 use mathlib.Core.Bool.{Bool, true, false}
 use Prim.Native.Nat.{ℕ}
 use native.Mathlib.Omega.{arith}
 use lib.ListN.{get_or}
+use Rattle.question.specs.declared.refusal.Refusal.{Refusal}
+use Rattle.question.proofs.RefusalNumbers.{number_determines}
 use Rattle.judge.specs.Answers.{AnswerRecord}
-use Rattle.flight.specs.declared.PuckEntry.TheVariants.{Never, During}
-use Rattle.candidate.specs.declared.FlightAnswer.{FlightAnswer}
-use Rattle.candidate.specs.declared.FlightAnswer.TheVariants.{Refused, Flown}
-use Rattle.candidate.specs.FlightAnswers.{yes_number, flight_record}
+use Rattle.candidate.specs.declared.Flown.{Flown}
+use Rattle.candidate.specs.FlightAnswers.{yes_number, inside_numbers, flight_record}
 
 kind : {a b : AnswerRecord} → a ≡ b → a.kind ≡ b.kind
 kind e = ap (λ (r : AnswerRecord). r.kind) e
@@ -22,13 +23,15 @@ same_yes false false e = refl
 same_yes true false e = absurd (omega arith)
 same_yes false true e = absurd (omega arith)
 
-pub flight_determined : (a b : FlightAnswer) → flight_record a ≡ flight_record b → a ≡ b
-flight_determined (Refused n) (Refused m) e = ap Refused (value 0 e)
-flight_determined (Refused n) (Flown o Never) e = absurd (omega (arith, kind e))
-flight_determined (Refused n) (Flown o (During i)) e = absurd (omega (arith, kind e))
-flight_determined (Flown o Never) (Refused m) e = absurd (omega (arith, kind e))
-flight_determined (Flown o (During i)) (Refused m) e = absurd (omega (arith, kind e))
-flight_determined (Flown o Never) (Flown p Never) e = ap (λ (b : Bool). Flown b Never) (same_yes o p (value 0 e))
-flight_determined (Flown o Never) (Flown p (During j)) e = absurd (omega (arith, value 1 e))
-flight_determined (Flown o (During i)) (Flown p Never) e = absurd (omega (arith, value 1 e))
-flight_determined (Flown o (During i)) (Flown p (During j)) e = let f = same_yes o p (value 0 e) in let g = value 2 e in cc
+same_inside : (a b : Option ℕ) → get_or (inside_numbers a) 0 0 ≡ get_or (inside_numbers b) 0 0 → get_or (inside_numbers a) 1 0 ≡ get_or (inside_numbers b) 1 0 → a ≡ b
+same_inside None None e f = refl
+same_inside None (Some j) e f = absurd (omega arith)
+same_inside (Some i) None e f = absurd (omega arith)
+same_inside (Some i) (Some j) e f = ap Some f
+
+pub flight_determined : (a b : Result Flown Refusal) → flight_record a ≡ flight_record b → a ≡ b
+flight_determined (Err n) (Err m) e = ap Err (number_determines n m (value 0 e))
+flight_determined (Err n) (Ok g) e = absurd (omega (arith, kind e))
+flight_determined (Ok f) (Err m) e = absurd (omega (arith, kind e))
+flight_determined (Ok f) (Ok g) e =
+    ap₂ (λ (o : Bool) (i : Option ℕ). Ok (record { obeys = o; inside = i })) (same_yes f.obeys g.obeys (value 0 e)) (same_inside f.inside g.inside (value 1 e) (value 2 e))

@@ -1,25 +1,36 @@
 -- An advice is refused as the one-sided question that it asks: 15 and 16 cannot occur, since it has no upper fields, and 4 only for its sense. So a flight is
 -- refused like that question, and an accepted question's flight with 18 alone. Assumes nothing.
-use mathlib.Core.Path.{◌≡◌, refl, sym, ◌∙◌}
+use Rattle.std.specs.Prelude.{Result, Ok, Err, ⊤}
+use mathlib.Core.Path.{◌≡◌, refl, sym, ap, ◌∙◌}
 use mathlib.Core.Bool.{Bool, true, false, cond, ◌&&◌}
-use mathlib.Core.List.{List, [], ◌∷◌}
-use Prim.Native.Nat.{ℕ}
-use native.Mathlib.Omega.{arith}
+use mathlib.Core.List.{List, [], ◌∷◌, ◌++◌}
 use lib.IntN.{ℤ}
 use Rattle.limits.specs.Limits.{target_within, strength_within}
 use Rattle.question.specs.declared.Encounter.{Encounter}
 use Rattle.question.specs.declared.Settings.{Settings}
-use Rattle.question.specs.declared.Checked.{Checked}
-use Rattle.question.specs.Refusals.{check, first_refusal, refusal}
-use Rattle.refusals.proofs.TestedInOrder.{accepted_first, refused_first, both_accept}
+use Rattle.question.specs.Refusals.{Check, check, first_refusal, refusal}
 use Rattle.flight.specs.HandedIn.{numbers_within}
 use Rattle.candidate.specs.declared.OneSidedAdvice.{OneSidedAdvice}
 use Rattle.candidate.specs.Advice.{asked, advice_checks, flight_refusal}
+use Rattle.question.specs.declared.refusal.Refusal.{Refusal}
 
 -- what a one-sided question is not asked for
 not_asked : (b : Bool) → (b && true) ≡ b
 not_asked true = refl
 not_asked false = refl
+
+-- one check after others: it is made where they accept
+abbrev pub then_flight : Result ⊤ Refusal → Bool → Result ⊤ Refusal
+then_flight (Err n) within = Err n
+then_flight (Ok _) within = cond within (Ok tt) (Err Refusal.FlightOutside)
+
+checked_last : (l : List Check) (within : Bool) → first_refusal (l ++ (check Refusal.FlightOutside within ∷ [])) ≡ then_flight (first_refusal l) within
+checked_last [] within = refl
+checked_last (c ∷ l) within = go c.passes (checked_last l within)
+  where
+    go : (b : Bool) → first_refusal (l ++ (check Refusal.FlightOutside within ∷ [])) ≡ then_flight (first_refusal l) within → cond b (first_refusal (l ++ (check Refusal.FlightOutside within ∷ []))) (Err c.refusal) ≡ then_flight (cond b (first_refusal l) (Err c.refusal)) within
+    go true rest = rest
+    go false rest = refl
 
 module _ (x : Encounter) (y : Settings) (z : OneSidedAdvice) where
   pub refused_as_asked : refusal x y (asked z) ≡ first_refusal (advice_checks x y z)
@@ -27,21 +38,22 @@ module _ (x : Encounter) (y : Settings) (z : OneSidedAdvice) where
   refused_as_asked = simp (not_asked (target_within z.target), not_asked (strength_within z.strength))
 
   module _ (l : List ℤ) where
-    -- a refused advice keeps its number, whatever the flight
-    pub advice_first : (n : ℕ) → refusal x y (asked z) ≡ Checked.Refused n → flight_refusal x y z l ≡ Checked.Refused n
+    -- a refused advice keeps its refusal, whatever the flight; an accepted one leaves 18
+    pub flight_last : flight_refusal x y z l ≡ then_flight (refusal x y (asked z)) (numbers_within l)
     unfolding flight_refusal
-    advice_first n e = refused_first n (advice_checks x y z) (check 18 (numbers_within l) ∷ []) (sym refused_as_asked ∙ e)
-
-    -- an accepted one leaves 18
-    pub flight_last : refusal x y (asked z) ≡ Checked.Accepted → flight_refusal x y z l ≡ first_refusal (check 18 (numbers_within l) ∷ [])
-    unfolding flight_refusal
-    flight_last e = accepted_first (advice_checks x y z) (check 18 (numbers_within l) ∷ []) (sym refused_as_asked ∙ e)
+    flight_last = checked_last (advice_checks x y z) (numbers_within l) ∙ ap (λ (k : Result ⊤ Refusal). then_flight k (numbers_within l)) (sym refused_as_asked)
 
     -- accepted: the question that is asked is, and the flight is within its sizes
-    pub accepted_flight : flight_refusal x y z l ≡ Checked.Accepted → (refusal x y (asked z) ≡ Checked.Accepted) × (numbers_within l ≡ true)
-    unfolding flight_refusal
-    accepted_flight e = let b = both_accept (advice_checks x y z) (check 18 (numbers_within l) ∷ []) e in (refused_as_asked ∙ b.0, within (numbers_within l) b.1)
+    pub accepted_flight : flight_refusal x y z l ≡ Ok tt → (refusal x y (asked z) ≡ Ok tt) × (numbers_within l ≡ true)
+    accepted_flight e = go (refusal x y (asked z)) (numbers_within l) (sym flight_last ∙ e)
       where
-        within : (b : Bool) → cond b Checked.Accepted (Checked.Refused 18) ≡ Checked.Accepted → b ≡ true
-        within true e = refl
-        within false e = let z : ◌≡◌ {A = ℕ} 0 1 = cc in absurd (omega arith)
+        go : (k : Result ⊤ Refusal) (b : Bool) → then_flight k b ≡ Ok tt → (k ≡ Ok tt) × (b ≡ true)
+        go (Ok _) true h = (refl, refl)
+        go (Ok _) false h = cc
+        go (Err n) b h = cc
+
+    pub accepted_question : flight_refusal x y z l ≡ Ok tt → refusal x y (asked z) ≡ Ok tt
+    accepted_question e = (accepted_flight e).0
+
+    pub accepted_numbers : flight_refusal x y z l ≡ Ok tt → numbers_within l ≡ true
+    accepted_numbers e = (accepted_flight e).1

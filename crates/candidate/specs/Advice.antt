@@ -1,14 +1,14 @@
 -- "Say whether it obeys a one-sided advice": the advice, the question that it asks, and what is refused. x is an encounter, y the settings, z an advice, l a
 -- flight's numbers.
-use Rattle.std.specs.Prelude.{◌&&◌, ◌||◌, List, [], ◌∷◌, ◌++◌, ℤ, pos}
+use Rattle.std.specs.Prelude.{◌&&◌, ◌||◌, List, [], ◌∷◌, ◌++◌, ℤ, pos, Result, ⊤}
 use Rattle.limits.specs.Limits.{target_within, strength_within, delay_within, limit_within, no_limit}
 use Rattle.question.specs.declared.Encounter.{Encounter}
 use Rattle.question.specs.declared.Settings.{Settings}
 use Rattle.question.specs.declared.Question.{Question}
-use Rattle.question.specs.declared.Checked.{Checked}
 use Rattle.question.specs.Refusals.{is_number, encounter_within, puck_within, delay_acceleration_within, Check, check, first_refusal}
 use Rattle.flight.specs.HandedIn.{numbers_within}
 use Rattle.candidate.specs.declared.OneSidedAdvice.{OneSidedAdvice}
+use Rattle.question.specs.declared.refusal.Refusal.{Refusal}
 
 -- the same advice as a question for the judge: one-sided, so both upper fields are 0
 abbrev pub asked : OneSidedAdvice → Question
@@ -18,18 +18,18 @@ asked z = record { sides = pos 1; sense = z.sense; target = z.target; upper_targ
 -- (`refused_as_asked`)
 abbrev pub advice_checks : Encounter → Settings → OneSidedAdvice → List Check
 advice_checks x y z =
-    check 1 (encounter_within x)
-    ∷ check 2 (puck_within y)
-    ∷ check 3 (delay_acceleration_within y)
-    ∷ check 4 (is_number (pos 0) z.sense || is_number (pos 1) z.sense)
-    ∷ check 5 (target_within z.target)
-    ∷ check 14 (strength_within z.strength)
-    ∷ check 6 (delay_within z.delay && (limit_within z.limit || is_number no_limit z.limit))
+    check Refusal.EncounterOutside (encounter_within x)
+    ∷ check Refusal.PuckOutside (puck_within y)
+    ∷ check Refusal.DelayAccelerationOutside (delay_acceleration_within y)
+    ∷ check Refusal.SidesOrSenseUnknown (is_number (pos 0) z.sense || is_number (pos 1) z.sense)
+    ∷ check Refusal.TargetOutside (target_within z.target)
+    ∷ check Refusal.StrengthOutside (strength_within z.strength)
+    ∷ check Refusal.TimesOutside (delay_within z.delay && (limit_within z.limit || is_number no_limit z.limit))
     ∷ []
 
 -- "It refuses with 18 a flight outside these sizes, after the refusals of encounter, puck, e and advice."
 abbrev pub flight_checks : Encounter → Settings → OneSidedAdvice → List ℤ → List Check
-flight_checks x y z l = advice_checks x y z ++ (check 18 (numbers_within l) ∷ [])
+flight_checks x y z l = advice_checks x y z ++ (check Refusal.FlightOutside (numbers_within l) ∷ [])
 
-unfoldable pub flight_refusal : Encounter → Settings → OneSidedAdvice → List ℤ → Checked
+unfoldable pub flight_refusal : Encounter → Settings → OneSidedAdvice → List ℤ → Result ⊤ Refusal
 flight_refusal x y z l = first_refusal (flight_checks x y z l)

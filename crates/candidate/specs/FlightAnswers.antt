@@ -1,22 +1,21 @@
 -- The answer to a flight, and the number and values of each answer. x is an encounter, y the settings, z an advice, l a flight's numbers. What the answers mean
 -- is `flight`'s: `Obeys` and `RightEntry` (specs/Obeying.antt, specs/Inside.antt); these are the forms that compute them.
-use Rattle.std.specs.Prelude.{Bool, true, false, List, [], ◌∷◌, ℕ, ℤ}
+use Rattle.std.specs.Prelude.{Bool, true, false, List, [], ◌∷◌, ℕ, ℤ, Option, Some, None, Result, Ok, Err, ⊤}
 use Rattle.path.specs.declared.SensedQuestion.{SensedQuestion}
 use Rattle.question.specs.declared.Encounter.{Encounter}
 use Rattle.question.specs.declared.Settings.{Settings}
-use Rattle.question.specs.declared.Checked.{Checked}
+use Rattle.question.specs.RefusalNumbers.{refusal_number}
 use Rattle.question.specs.Refusals.{sense_of}
 use Rattle.sensed.specs.Sensed.{sensed_question}
 use Rattle.judge.specs.Answers.{AnswerRecord, answers}
 use Rattle.flight.specs.declared.Stretch.{Stretch}
-use Rattle.flight.specs.declared.PuckEntry.TheVariants.{Never, During}
 use Rattle.flight.specs.HandedIn.{flight_of}
 use Rattle.flight.specs.SensedFlight.{sensed_flight}
 use Rattle.flight.specs.inner.Tests.{obeys_test, first_inside}
 use Rattle.candidate.specs.declared.OneSidedAdvice.{OneSidedAdvice}
-use Rattle.candidate.specs.declared.FlightAnswer.{FlightAnswer}
-use Rattle.candidate.specs.declared.FlightAnswer.TheVariants.{Refused, Flown}
 use Rattle.candidate.specs.Advice.{asked, flight_refusal}
+use Rattle.question.specs.declared.refusal.Refusal.{Refusal}
+use Rattle.candidate.specs.declared.Flown.{Flown}
 
 -- the advice in its sense, and the flight in that sense
 abbrev pub advice_in_sense : Encounter → Settings → OneSidedAdvice → SensedQuestion
@@ -26,11 +25,11 @@ abbrev pub flight_in_sense : OneSidedAdvice → List ℤ → List Stretch
 flight_in_sense z l = sensed_flight (sense_of (asked z)) (flight_of l)
 
 -- refused, or else flown
-abbrev pub checked_flight : Checked → SensedQuestion → List Stretch → FlightAnswer
-checked_flight (Checked.Refused n) s l = Refused n
-checked_flight Checked.Accepted s l = Flown (obeys_test s l) (first_inside s l)
+abbrev pub checked_flight : Result ⊤ Refusal → SensedQuestion → List Stretch → Result Flown Refusal
+checked_flight (Err n) s l = Err n
+checked_flight (Ok _) s l = Ok (record { obeys = obeys_test s l; inside = first_inside s l })
 
-unfoldable pub flight_answer : Encounter → Settings → OneSidedAdvice → List ℤ → FlightAnswer
+unfoldable pub flight_answer : Encounter → Settings → OneSidedAdvice → List ℤ → Result Flown Refusal
 unfolding flight_refusal sensed_question obeys_test first_inside
 flight_answer x y z l = checked_flight (flight_refusal x y z l) (advice_in_sense x y z) (flight_in_sense z l)
 
@@ -40,7 +39,10 @@ abbrev pub yes_number : Bool → ℕ
 yes_number true = 1
 yes_number false = 0
 
-abbrev pub flight_record : FlightAnswer → AnswerRecord
-flight_record (Refused n) = answers 68 (n ∷ [])
-flight_record (Flown obeys Never) = answers 0 (yes_number obeys ∷ 0 ∷ [])
-flight_record (Flown obeys (During n)) = answers 0 (yes_number obeys ∷ 1 ∷ n ∷ [])
+abbrev pub inside_numbers : Option ℕ → List ℕ
+inside_numbers None = 0 ∷ []
+inside_numbers (Some n) = 1 ∷ n ∷ []
+
+abbrev pub flight_record : Result Flown Refusal → AnswerRecord
+flight_record (Err n) = answers 68 (refusal_number n ∷ [])
+flight_record (Ok flown) = answers 0 (yes_number flown.obeys ∷ inside_numbers flown.inside)

@@ -3,11 +3,10 @@
 
 ghost use Rattle.std.specs.Prelude.{◌≡◌};
 ghost use Rattle.candidate.specs.Advice.{asked, flight_refusal};
-ghost use Rattle.candidate.specs.FlightAnswers.{flight_answer, flight_record};
+ghost use Rattle.candidate.specs.FlightAnswers.{flight_answer};
 
-use flight::PuckEntry;
-use flown::{first_inside, flight_obeys};
-use question::{Checked, Encounter, Question, Settings, sense_of};
+use flown::{Flight, first_inside, flight_obeys};
+use question::{AcceptedQuestion, Encounter, Question, Refusal, Settings, sense_of};
 use refusals::check_question;
 use sensed::sensed_question;
 use stretches::flight_within;
@@ -22,11 +21,11 @@ pub struct OneSidedAdvice {
     pub limit: i64,
 }
 
-// The refusal's number; or whether the flight obeys, and when it is inside the puck.
+// A flight that is not refused: whether it obeys, and the second in which it is first inside the puck, if it ever is.
 #[derive(Clone, Copy)]
-pub enum FlightAnswer {
-    Refused(u8),
-    Flown(bool, PuckEntry),
+pub struct Flown {
+    pub obeys: bool,
+    pub inside: Option<u64>,
 }
 
 // The advice as a question: one-sided, with no upper fields.
@@ -46,44 +45,46 @@ pub fn asked(advice: OneSidedAdvice) -> Question
 }
 
 // 18 comes after the refusals of encounter, puck, e and advice.
+#[tactic(auto, using(crate::proofs::RefusedAsAsked::flight_last))]
 fn check_flight(
     encounter: Encounter,
     settings: Settings,
     advice: OneSidedAdvice,
     flight: &[i64],
-) -> Checked
+) -> Result<(), Refusal>
     ensures { result ≡ flight_refusal encounter settings advice flight.now }
 {
-    match check_question(encounter, settings, asked(advice)) {
-        Checked::Accepted => {
-            if flight_within(flight) {
-                Checked::Accepted
-            } else {
-                Checked::Refused(18)
-            }
-        }
-        Checked::Refused(number) => Checked::Refused(number),
+    check_question(encounter, settings, asked(advice))?;
+    if !flight_within(flight) {
+        return Err(Refusal::FlightOutside);
     }
+    Ok(())
 }
 
 // The entry: any 64-bit values, and as many of them as the flight has.
+#[tactic(auto, using(crate::proofs::RefusedAsAsked::accepted_question, crate::proofs::RefusedAsAsked::accepted_numbers, sensed::proofs::AcceptedSizes::accepted_sizes), unfolding(crate::specs::FlightAnswers::flight_answer))]
 pub fn judge_flight(
     encounter: Encounter,
     settings: Settings,
     advice: OneSidedAdvice,
     flight: &[i64],
-) -> FlightAnswer
-    ensures { flight_record result ≡ flight_record (flight_answer encounter settings advice flight.now) }
+) -> Result<Flown, Refusal>
+    ensures { result ≡ flight_answer encounter settings advice flight.now }
 {
-    match check_flight(encounter, settings, advice, flight) {
-        Checked::Accepted => {
-            let question = asked(advice);
-            let s = sensed_question(encounter, settings, question);
-            let w = sense_of(question);
-            let obeys = flight_obeys(s, w, flight);
-            let entry = first_inside(s, w, flight);
-            FlightAnswer::Flown(obeys, entry)
-        }
-        Checked::Refused(number) => FlightAnswer::Refused(number),
-    }
+    check_flight(encounter, settings, advice, flight)?;
+    let question = asked(advice);
+    let accepted = AcceptedQuestion {
+        encounter,
+        settings,
+        question,
+    };
+    let flight = Flight {
+        question: sensed_question(accepted),
+        sense: sense_of(question),
+        numbers: flight,
+    };
+    Ok(Flown {
+        obeys: flight_obeys(flight),
+        inside: first_inside(flight),
+    })
 }

@@ -1,5 +1,6 @@
 -- What became of MCL and MDES. Document 01's rule for questions by code, before document 02 gave 17 to those that are never issued, and that nothing else changed: 17 is for
 -- code 10 with v < 0 and code 9 with v > 0 exactly, and every other question by code is what it was. Assumes nothing.
+use Rattle.std.specs.Prelude.{Err, Ok, Result}
 use mathlib.Core.Path.{◌≡◌, refl, subst, ap, ap₂, ◌∙◌}
 use mathlib.Core.Bool.{Bool, true, false, cond, not, ◌&&◌, ◌||◌}
 use mathlib.Core.Logic.{◌⊎◌, inl, inr, ⊎_elim, ◌↔◌}
@@ -13,20 +14,21 @@ use Rattle.integers.proofs.Certificates.{split<}
 use Rattle.integers.proofs.Laws.{same_test}
 use Rattle.integers.proofs.Branches.{picks_yes, picks_no}
 use Rattle.advisory.specs.declared.Instruction.{Instruction}
-use Rattle.advisory.specs.declared.Advised.{Advised}
 use Rattle.advisory.specs.Catalogue.{article_entries, not_judged, catalogue_of}
 use Rattle.advisory.specs.ReactionTable.{reaction_table}
 use Rattle.advisory.specs.Advised.{advised_of}
-use Rattle.coded.specs.declared.CodedQuestion.{CodedQuestion}
 use Rattle.coded.specs.Coded.{instructed, maintainable, asked, coded_question}
+use Rattle.advisory.specs.declared.CodeError.{CodeError}
+use Rattle.question.specs.declared.refusal.Refusal.{Refusal}
+use Rattle.question.specs.declared.Question.{Question}
 
 -- ---- the earlier rule: "8 code outside 1 to 18; 9 code 17 or 18", and every other code is asked
-abbrev pub earlier_asked : Advised → ℤ → ℤ → CodedQuestion
-earlier_asked (Advised.Judged i) v limit = CodedQuestion.Asked (instructed i v limit)
-earlier_asked Advised.NotJudged v limit = CodedQuestion.Refused 9
-earlier_asked Advised.Unknown v limit = CodedQuestion.Refused 8
+abbrev pub earlier_asked : Result Instruction CodeError → ℤ → ℤ → Result Question Refusal
+earlier_asked (Ok i) v limit = Ok (instructed i v limit)
+earlier_asked (Err CodeError.NotJudged) v limit = Err Refusal.CodeNotJudged
+earlier_asked (Err CodeError.Unknown) v limit = Err Refusal.CodeUnknown
 
-unfoldable pub earlier_question : ℕ → ℤ → ℤ → CodedQuestion
+unfoldable pub earlier_question : ℕ → ℤ → ℤ → Result Question Refusal
 earlier_question code v limit = earlier_asked (advised_of code) v limit
 
 -- ---- what changed
@@ -35,8 +37,8 @@ abbrev pub NeverIssued : ℕ → ℤ → Type 0
 NeverIssued code v = ((code ≡ 10) × (v <ℤ pos 0)) ⊎ ((code ≡ 9) × (pos 0 <ℤ v))
 
 pub record OnlySeventeen (code : ℕ) (v limit : ℤ) : Type 0 where
-  pub refused : (coded_question code v limit ≡ CodedQuestion.Refused 17) ↔ NeverIssued code v
-  pub otherwise : ¬ (coded_question code v limit ≡ CodedQuestion.Refused 17) → coded_question code v limit ≡ earlier_question code v limit
+  pub refused : (coded_question code v limit ≡ Err Refusal.NeverIssued) ↔ NeverIssued code v
+  pub otherwise : ¬ (coded_question code v limit ≡ Err Refusal.NeverIssued) → coded_question code v limit ≡ earlier_question code v limit
 
 -- ---- the test, by its parts
 differ : ¬ (true ≡ false)
@@ -83,31 +85,31 @@ module _ (code : ℕ) (v : ℤ) where
       go false h = absurd (h refl)
 
   -- codes 9 and 10 are judged
-  listed : NeverIssued code v → (i : Instruction) × (advised_of code ≡ Advised.Judged i)
+  listed : NeverIssued code v → (i : Instruction) × (advised_of code ≡ Ok i)
   unfolding advised_of catalogue_of article_entries not_judged reaction_table
   listed (inl h) = (_, ap advised_of h.0)
   listed (inr h) = (_, ap advised_of h.0)
 
   module _ (limit : ℤ) where
-    asked_17 : (a : Advised) → asked code a v limit ≡ CodedQuestion.Refused 17 → maintainable code v ≡ false
-    asked_17 (Advised.Judged i) e = go (maintainable code v) e
+    asked_17 : (a : Result Instruction CodeError) → asked code a v limit ≡ Err Refusal.NeverIssued → maintainable code v ≡ false
+    asked_17 (Ok i) e = go (maintainable code v) e
       where
-        go : (b : Bool) → cond b (CodedQuestion.Asked (instructed i v limit)) (CodedQuestion.Refused 17) ≡ CodedQuestion.Refused 17 → b ≡ false
+        go : (b : Bool) → cond b (Ok (instructed i v limit)) (Err Refusal.NeverIssued) ≡ Err Refusal.NeverIssued → b ≡ false
         go true e = absurd (let z : ◌≡◌ {A = ℕ} 0 1 = cc in omega arith)
         go false e = refl
-    asked_17 Advised.NotJudged e = absurd (let z : ◌≡◌ {A = ℕ} 9 17 = cc in omega arith)
-    asked_17 Advised.Unknown e = absurd (let z : ◌≡◌ {A = ℕ} 8 17 = cc in omega arith)
+    asked_17 (Err CodeError.NotJudged) e = absurd (let z : ◌≡◌ {A = ℕ} 9 17 = cc in omega arith)
+    asked_17 (Err CodeError.Unknown) e = absurd (let z : ◌≡◌ {A = ℕ} 8 17 = cc in omega arith)
 
-    as_before : (a : Advised) → maintainable code v ≡ true → asked code a v limit ≡ earlier_asked a v limit
-    as_before (Advised.Judged i) e = picks_yes _ _ _ e
-    as_before Advised.NotJudged e = refl
-    as_before Advised.Unknown e = refl
+    as_before : (a : Result Instruction CodeError) → maintainable code v ≡ true → asked code a v limit ≡ earlier_asked a v limit
+    as_before (Ok i) e = picks_yes _ _ _ e
+    as_before (Err CodeError.NotJudged) e = refl
+    as_before (Err CodeError.Unknown) e = refl
 
-    now_17 : NeverIssued code v → coded_question code v limit ≡ CodedQuestion.Refused 17
+    now_17 : NeverIssued code v → coded_question code v limit ≡ Err Refusal.NeverIssued
     unfolding coded_question
     now_17 n =
         let l = listed n in
-        ap (λ (a : Advised). asked code a v limit) l.1 ∙ picks_no _ _ _ (never_issued.1 n)
+        ap (λ (a : Result Instruction CodeError). asked code a v limit) l.1 ∙ picks_no _ _ _ (never_issued.1 n)
 
     pub only_17 : OnlySeventeen code v limit
     unfolding coded_question earlier_question

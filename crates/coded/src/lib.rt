@@ -6,15 +6,8 @@ ghost use Rattle.advisory.specs.Catalogue.{rate_of};
 ghost use Rattle.advisory.specs.inner.Codes.{InLimits};
 ghost use Rattle.coded.specs.Coded.{sense_number, instructed, maintainable, coded_question};
 
-use advisory::{Advised, Instruction, Sense, Target, advise};
-use question::Question;
-
-// A question by code as a free one, or the refusal's number.
-#[derive(Clone, Copy)]
-pub enum CodedQuestion {
-    Asked(Question),
-    Refused(u8),
-}
+use advisory::{Instruction, Sense, Target, advise};
+use question::{Question, Refusal};
 
 fn sense_number(sense: Sense) -> i64
     ensures { result ≡ sense_number sense }
@@ -50,7 +43,7 @@ fn instructed(i: Instruction, v: i64, limit: i64) -> Question
         strength: i.strength as i64,
         upper_strength: 0,
         delay: i.delay as i64,
-        limit: limit,
+        limit,
     }
 }
 
@@ -63,16 +56,12 @@ fn maintainable(code: u8, v: i64) -> bool
 
 // A question by code as a free one: refusal 17 for a speed that can't be maintained, 9 for codes that are not judged, 8 for unknown ones.
 #[tactic(auto, unfolding(crate::specs::Coded::coded_question))]
-pub fn coded_question(code: u8, v: i64, limit: i64) -> CodedQuestion
+pub fn coded_question(code: u8, v: i64, limit: i64) -> Result<Question, Refusal>
     ensures { result ≡ coded_question code v limit }
 {
-    match advise(code) {
-        Advised::Judged(i) => if maintainable(code, v) {
-            CodedQuestion::Asked(instructed(i, v, limit))
-        } else {
-            CodedQuestion::Refused(17)
-        },
-        Advised::NotJudged => CodedQuestion::Refused(9),
-        Advised::Unknown => CodedQuestion::Refused(8),
+    let instruction = advise(code)?;
+    if !maintainable(code, v) {
+        return Err(Refusal::NeverIssued);
     }
+    Ok(instructed(instruction, v, limit))
 }

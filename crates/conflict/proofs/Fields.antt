@@ -1,17 +1,19 @@
 -- The bounds of a question's and a rule's numbers, as rules for `search`. Assumes nothing.
-use mathlib.Core.Path.{◌≡◌, sym, ap, ◌∙◌}
+use mathlib.Core.Path.{◌≡◌, refl, sym, ap, ap₂, ◌∙◌}
 use mathlib.Core.List.{[], ◌∷◌}
 use Prim.Native.Nat.{ℕ, ◌+◌, ◌*◌, ◌<◌, ◌≤◌}
 use native.Mathlib.Nat.{mul-le-mul}
 use native.Mathlib.Omega.{arith}
-use lib.Dec.{lit≤}
+use lib.Dec.{T, lit≤}
 use lib.IntN.{ℤ, pos, negsuc, ◌+ℤ◌, ◌-ℤ◌, ◌*ℤ◌, nat_abs}
 use lib.Signed.{le_z}
 use mir.Syntax.{w64}
 use mir.Val.{SFits, to_z, of_z}
 use mir.Facts.{to_z-of_z}
 use Rattle.limits.specs.Limits.{max_height, max_closing_speed, max_half_height, max_strength, max_delay_acceleration, max_delay}
-use Rattle.integers.specs.Extremes.{max0}
+use Rattle.std.specs.Int.{int_max}
+use Rattle.std.proofs.lemmas.Bool.Decides.{nat_tests}
+use Rattle.integers.specs.Extremes.{max0, maxℤ}
 use Rattle.integers.proofs.Difference.{cond_by}
 use Rattle.integers.proofs.Quotation.{quote}
 use Rattle.integers.proofs.Certificates.{ring, by≤, gap≤}
@@ -20,12 +22,14 @@ use Rattle.integers.proofs.Machine.{Reading, bounded, bounded_natural, bounded_w
 use Rattle.path.specs.declared.SensedQuestion.{SensedQuestion}
 use Rattle.path.specs.declared.Side.{Side}
 use Rattle.path.specs.declared.Side.TheVariants.{Lower, Upper}
+use Rattle.path.specs.declared.side_question.SideQuestion.{SideQuestion}
+use Rattle.path.specs.declared.sized_question.SizedQuestion.{SizedQuestion}
 use Rattle.path.specs.Letters.{k, wh, u, q, d, e, upper_q}
 use Rattle.path.specs.Paths.{delay_height, u_d, speed_reached, upper_target}
 use Rattle.path.specs.inner.Sizes.{max_speed_difference, max_speed_after_delay, Sizes, Sized, farthest, InReach}
 use Rattle.window.proofs.Fields.{read_n, read_m, size}
 use Rattle.conflict.specs.declared.AdviceRule.{AdviceRule}
-use Rattle.conflict.specs.inner.Divided.{height_not_beyond, bend, speed_after_delay, edge_height, rule_edge, rule_of, missing}
+use Rattle.conflict.specs.inner.Divided.{height_not_beyond, bend, speed_after_delay, edge_height, target_of, rule_edge, rule_of, missing}
 use Rattle.conflict.specs.inner.RuleSizes.{most_start, most_edge, RuleSizes, most_missing, most_bend}
 
 -- ---- a call's result, which fits and equals t; no bound is known
@@ -106,6 +110,16 @@ pub ruleset numbers = (
   read_rule_edge,
 )
 
+-- the library's larger of two numbers is the paths', also of two that the code reads
+int_max_is : (x y : ℤ) → int_max x y ≡ maxℤ x y
+int_max_is (pos a) (pos b) = grind (arith, nat_tests)
+int_max_is (pos a) (negsuc b) = refl
+int_max_is (negsuc a) (pos b) = refl
+int_max_is (negsuc a) (negsuc b) = grind (arith, nat_tests)
+
+pub larger_is : {m s t : ℤ} (x : Reading s) (y : Reading t) → T x.guard → T y.guard → m ≡ int_max s t → m ≡ maxℤ x.number y.number
+larger_is x y f g h = h ∙ (ap₂ int_max (x.is f) (y.is g) ∙ int_max_is x.number y.number)
+
 -- ---- the parts of a side's delay and rule
 module _ (s : SensedQuestion) (z : Sizes s) where
   pub bend_natural : (side : Side) → nat_abs (bend side s) ≤ max_delay_acceleration
@@ -139,16 +153,6 @@ module _ (s : SensedQuestion) (z : Sizes s) where
       let start = bounded_absolute (delay_height (bend side s) (u s) (d s) 1) most_start (start_size side) in
       size (rule_edge side s) (search numbers depth 20) tt
 
-  -- a call's result is the definition's, and small
-  abbrev pub read_bend : (side : Side) {r : ℤ} → r ≡ bend side s → Reading r
-  read_bend side h = equal_to h (bounded_absolute (bend side s) max_delay_acceleration (bend_natural side))
-
-  abbrev pub read_speed_after_delay : (side : Side) {r : ℤ} → r ≡ speed_after_delay side s → Reading r
-  read_speed_after_delay side h = equal_to h (bounded_absolute (speed_after_delay side s) max_speed_after_delay (after_delay_size side))
-
-  abbrev pub read_edge_height : (side : Side) {r : ℤ} → r ≡ edge_height side s → Reading r
-  read_edge_height side h = equal_to h (bounded_absolute (edge_height side s) (max_height + max_half_height) (edge_height_size side))
-
   -- twice the height at the delay's end: the two speeds' sum times d
   start_is : (side : Side) → (u s +ℤ speed_after_delay side s) *ℤ pos (d s) ≡ delay_height (bend side s) (u s) (d s) 1
   unfolding delay_height
@@ -157,6 +161,23 @@ module _ (s : SensedQuestion) (z : Sizes s) where
 
   pub rule_edge_is : (side : Side) → pos 2 *ℤ edge_height side s -ℤ (u s +ℤ speed_after_delay side s) *ℤ pos (d s) ≡ rule_edge side s
   rule_edge_is side = ap (λ (start : ℤ). pos 2 *ℤ edge_height side s -ℤ start) (start_is side)
+
+-- a call's result is the definition's, and small
+module _ (side : Side) (question : SizedQuestion) {r : ℤ} where
+  abbrev pub read_bend : r ≡ bend side question.sensed → Reading r
+  read_bend h = equal_to h (bounded_absolute (bend side question.sensed) max_delay_acceleration (bend_natural question.sensed question.sizes side))
+
+module _ (asked : SideQuestion) {r : ℤ} where
+  abbrev pub read_speed_after_delay : r ≡ speed_after_delay asked.side asked.question.sensed → Reading r
+  read_speed_after_delay h = equal_to h (bounded_absolute (speed_after_delay asked.side asked.question.sensed) max_speed_after_delay (after_delay_size asked.question.sensed asked.question.sizes asked.side))
+
+  abbrev pub read_edge_height : r ≡ edge_height asked.side asked.question.sensed → Reading r
+  read_edge_height h = equal_to h (bounded_absolute (edge_height asked.side asked.question.sensed) (max_height + max_half_height) (edge_height_size asked.question.sensed asked.question.sizes asked.side))
+
+-- an upper rule's target is the larger of the advice's and the speed that the rule begins with
+pub upper_target_is : (side : Side) (s : SensedQuestion) → side ≡ Upper → maxℤ (upper_q s) (speed_after_delay side s) ≡ target_of side s
+upper_target_is Lower s is = cc
+upper_target_is Upper s is = refl
 
 pub upper_target_size : (s : SensedQuestion) → Sized Upper s → nat_abs (upper_target s) ≤ max_speed_after_delay
 upper_target_size s z =

@@ -1,28 +1,30 @@
-// Whether an instant n/m is in conflict on a side: exact 64-bit code for the tests of `path`.
+// Whether an instant is in conflict on a side: exact 64-bit code for the tests of `path`.
 //
 // `path` compares heights times 2·a·m², up to 4.4e19, which 64 bits don't hold. So each comparison here has a factor that its two sides share divided out:
 // an arc stands times 2·m², a straight times 2·a·m. Locals bear document 01's letters (`path`, specs/Letters.antt).
+//
+// That an instant is in reach is a clause: a type for it would be built at each call, and proved there all the same.
 #![tactic(auto)]
 
 ghost use Rattle.std.specs.Prelude.{◌≡◌, ◌*◌, ◌≤◌, ◌-ℤ◌, nat_abs};
 ghost use Rattle.integers.specs.Extremes.{max0};
 ghost use Rattle.path.specs.declared.Side.TheVariants.{Lower, Upper};
 ghost use Rattle.path.specs.Letters.{u};
-ghost use Rattle.path.specs.Paths.{delay_height, upper_target};
+ghost use Rattle.path.specs.Paths.{delay_height};
 ghost use Rattle.path.specs.inner.Tests.{not_beyond};
-ghost use Rattle.path.specs.inner.Sizes.{Sizes, Sized, InReach};
-ghost use Rattle.conflict.specs.inner.Divided.{bend, speed_after_delay, edge_height, delay_not_beyond, rule_of, rule_not_beyond, missing, arc_not_beyond, straight_not_beyond};
+ghost use Rattle.path.specs.inner.Sizes.{InReach};
+ghost use Rattle.conflict.specs.inner.Divided.{bend, speed_after_delay, edge_height, delay_not_beyond, strength_of, target_of, rule_of, rule_not_beyond, missing, arc_not_beyond, straight_not_beyond};
 ghost use Rattle.conflict.specs.inner.RuleSizes.{RuleSizes, most_missing, most_bend};
 ghost use Rattle.conflict.specs.inner.DifferenceRange.{max_operand};
 
-use path::{SensedQuestion, Side};
+use instant::Instant;
+use path::{Side, SideQuestion, SizedQuestion};
 
 // The acceleration during the delay: against the advice on the lower path, towards it on the upper.
-fn delay_bend(side: Side, s: SensedQuestion) -> i64
-    requires { Sizes s }
-    ensures { result ≡ bend side s }
+fn delay_bend(side: Side, question: SizedQuestion) -> i64
+    ensures { result ≡ bend side question.sensed }
 {
-    let e = s.delay_acceleration as i64;
+    let e = question.sensed.delay_acceleration as i64;
     match side {
         Side::Lower => -e,
         Side::Upper => e,
@@ -30,72 +32,79 @@ fn delay_bend(side: Side, s: SensedQuestion) -> i64
 }
 
 // The speed at the delay's end: u_d, or on the upper path the speed reached.
-pub fn speed_after_delay(side: Side, s: SensedQuestion) -> i64
-    requires { Sizes s }
-    ensures { result ≡ speed_after_delay side s }
+pub fn speed_after_delay(side: Side, question: SizedQuestion) -> i64
+    ensures { result ≡ speed_after_delay side question.sensed }
 {
-    let bend = delay_bend(side, s);
-    let u = s.speed;
-    let d = s.delay as i64;
+    let bend = delay_bend(side, question);
+    let u = question.sensed.speed;
+    let d = question.sensed.delay as i64;
     u + bend * d
 }
 
-// The upper rule's target: an ownship that is faster already keeps its speed.
-pub fn upper_target(s: SensedQuestion) -> i64
-    requires { Sized Upper s }
-    ensures { result ≡ upper_target s }
+// The advice's strength.
+fn rule_strength(asked: SideQuestion) -> u64
+    ensures { result ≡ strength_of asked.side asked.question.sensed }
 {
-    let speed = speed_after_delay(Side::Upper, s);
-    let target = s.upper_target;
-    if target <= speed {
-        return speed;
+    let s = asked.question.sensed;
+    match asked.side {
+        Side::Lower => s.strength,
+        Side::Upper => s.upper_strength,
     }
-    target
+}
+
+// The advice's target. On the upper side an ownship that is faster already keeps its speed.
+pub fn rule_target(asked: SideQuestion) -> i64
+    ensures { result ≡ target_of asked.side asked.question.sensed }
+{
+    let s = asked.question.sensed;
+    match asked.side {
+        Side::Lower => s.target,
+        Side::Upper => s
+            .upper_target
+            .max(speed_after_delay(asked.side, asked.question)),
+    }
 }
 
 // The height during the delay, times 2·m².
-fn delay_height(side: Side, s: SensedQuestion, n: u64, m: u64) -> i64
-    requires sizes { Sizes s }
-    requires in_reach { InReach Lower n m }
-    ensures { result ≡ delay_height (bend side s) (u s) n m }
+fn delay_height(asked: SideQuestion, t: Instant) -> i64
+    requires { InReach Lower t.n t.m }
+    ensures { result ≡ delay_height (bend asked.side asked.question.sensed) (u asked.question.sensed) t.n t.m }
 {
-    let bend = delay_bend(side, s);
-    let u = s.speed;
-    let n = n as i64;
-    let m = m as i64;
+    let bend = delay_bend(asked.side, asked.question);
+    let u = asked.question.sensed.speed;
+    let n = t.n as i64;
+    let m = t.m as i64;
     2 * u * n * m + bend * n * n
 }
 
 // The height of the puck's edge: w·h + k, or on the upper side w·h − k.
-fn edge_height(side: Side, s: SensedQuestion) -> i64
-    requires { Sizes s }
-    ensures { result ≡ edge_height side s }
+fn edge_height(asked: SideQuestion) -> i64
+    ensures { result ≡ edge_height asked.side asked.question.sensed }
 {
-    let level = s.level;
-    let k = s.half_height as i64;
-    match side {
+    let level = asked.question.sensed.level;
+    let k = asked.question.sensed.half_height as i64;
+    match asked.side {
         Side::Lower => level + k,
         Side::Upper => level - k,
     }
 }
 
 // The delay against the puck's edge.
-fn delay_not_beyond(side: Side, s: SensedQuestion, n: u64, m: u64) -> bool
-    requires sizes { Sizes s }
-    requires in_reach { InReach Lower n m }
-    ensures { result ≡ delay_not_beyond side s n m }
+fn delay_not_beyond(asked: SideQuestion, t: Instant) -> bool
+    requires { InReach Lower t.n t.m }
+    ensures { result ≡ delay_not_beyond asked.side asked.question.sensed t.n t.m }
 {
-    let edge = edge_height(side, s);
-    let height = delay_height(side, s, n, m);
-    let m = m as i64;
+    let edge = edge_height(asked);
+    let height = delay_height(asked, t);
+    let m = t.m as i64;
     let edge = 2 * m * m * edge;
-    match side {
+    match asked.side {
         Side::Lower => height <= edge,
         Side::Upper => edge <= height,
     }
 }
 
-// An advice rule from any height and speed on, so that one comparison serves both sides.
+// An advice rule from any height and speed on, so that one comparison serves both sides. (Its sizes are a clause: `rule_of` makes rules of any question.)
 #[derive(Clone, Copy)]
 struct AdviceRule {
     strength: u64,
@@ -107,35 +116,25 @@ struct AdviceRule {
 }
 
 // A side's rule, from the delay's end on. Twice the height there is whole, the sum of the two speeds times d: halving e·d² could lose half a grain.
-fn advice_rule(side: Side, s: SensedQuestion) -> AdviceRule
-    requires { Sized side s }
-    ensures { result ≡ rule_of side s }
+fn advice_rule(asked: SideQuestion) -> AdviceRule
+    ensures { result ≡ rule_of asked.side asked.question.sensed }
 {
-    let edge = edge_height(side, s);
-    let speed = speed_after_delay(side, s);
-    let u = s.speed;
-    let d = s.delay as i64;
-    let edge = 2 * edge - (u + speed) * d;
-    match side {
-        Side::Lower => AdviceRule {
-            strength: s.strength,
-            target: s.target,
-            speed: speed,
-            edge: edge,
-        },
-        Side::Upper => AdviceRule {
-            strength: s.upper_strength,
-            target: upper_target(s),
-            speed: speed,
-            edge: edge,
-        },
+    let edge = edge_height(asked);
+    let speed = speed_after_delay(asked.side, asked.question);
+    let u = asked.question.sensed.speed;
+    let d = asked.question.sensed.delay as i64;
+    AdviceRule {
+        strength: rule_strength(asked),
+        target: rule_target(asked),
+        speed,
+        edge: 2 * edge - (u + speed) * d,
     }
 }
 
 // max(0, q − u) without a branch: the difference times 1 where it is above 0, and times 0 where it is not. (docs/LESSON-LARGER.md)
 pub fn positive_difference(q: i64, u: i64) -> u64
-    requires q_bound { nat_abs q ≤ max_operand }
-    requires u_bound { nat_abs u ≤ max_operand }
+    requires q_in_range { nat_abs q ≤ max_operand }
+    requires u_in_range { nat_abs u ≤ max_operand }
     ensures { result ≡ max0 (q -ℤ u) }
 {
     ((q - u) * ((0 < q - u) as i64)) as u64
@@ -146,26 +145,23 @@ fn missing_speed(rule: AdviceRule) -> u64
     requires { RuleSizes rule }
     ensures { result ≡ missing rule }
 {
-    let target = rule.target;
-    let speed = rule.speed;
-    positive_difference(target, speed)
+    positive_difference(rule.target, rule.speed)
 }
 
 // While the speed still changes: a·n is below G·m then, which keeps a·n² small. (The instants of both sides are in the upper one's reach.)
-fn arc_not_beyond(side: Side, rule: AdviceRule, n: u64, m: u64) -> bool
+fn arc_not_beyond(side: Side, rule: AdviceRule, since: Instant) -> bool
     requires rule_sizes { RuleSizes rule }
-    requires in_reach { InReach Upper n m }
-    requires n_bound { rule.strength * n * n ≤ most_bend }
-    ensures { result ≡ arc_not_beyond side rule n m }
+    requires in_reach { InReach Upper since.n since.m }
+    requires before_straight { rule.strength * since.n * since.n ≤ most_bend }
+    ensures { result ≡ arc_not_beyond side rule since.n since.m }
 {
     let a = rule.strength;
     let u = rule.speed;
-    let edge = rule.edge;
-    let bend = (a * n * n) as i64;
-    let n = n as i64;
-    let m = m as i64;
+    let bend = (a * since.n * since.n) as i64;
+    let n = since.n as i64;
+    let m = since.m as i64;
     let arc = 2 * u * n * m + bend;
-    let edge = m * m * edge;
+    let edge = m * m * rule.edge;
     match side {
         Side::Lower => arc <= edge,
         Side::Upper => edge <= arc,
@@ -173,92 +169,51 @@ fn arc_not_beyond(side: Side, rule: AdviceRule, n: u64, m: u64) -> bool
 }
 
 // Once the speed is the target.
-fn straight_not_beyond(side: Side, rule: AdviceRule, gap: u64, n: u64, m: u64) -> bool
+fn straight_not_beyond(side: Side, rule: AdviceRule, gap: u64, since: Instant) -> bool
     requires rule_sizes { RuleSizes rule }
-    requires in_reach { InReach Upper n m }
-    requires gap_value { gap ≡ missing rule }
-    ensures { result ≡ straight_not_beyond side rule n m }
+    requires in_reach { InReach Upper since.n since.m }
+    requires gap_missing { gap ≡ missing rule }
+    ensures { result ≡ straight_not_beyond side rule since.n since.m }
 {
-    let a = rule.strength;
     let q = rule.target;
-    let edge = rule.edge;
-    let run = (a * n) as i64;
-    let a = a as i64;
+    let run = (rule.strength * since.n) as i64;
+    let a = rule.strength as i64;
     let g = gap as i64;
-    let m = m as i64;
+    let m = since.m as i64;
     let straight = 2 * q * run - g * g * m;
-    let edge = a * m * edge;
+    let edge = a * m * rule.edge;
     match side {
         Side::Lower => straight <= edge,
         Side::Upper => edge <= straight,
     }
 }
 
-// The rule n/m after it begins.
-fn rule_not_beyond(side: Side, rule: AdviceRule, n: u64, m: u64) -> bool
+// The rule a time after it begins.
+fn rule_not_beyond(side: Side, rule: AdviceRule, since: Instant) -> bool
     requires rule_sizes { RuleSizes rule }
-    requires rule_bound { missing rule ≤ most_missing side }
-    requires in_reach { InReach side n m }
-    ensures { result ≡ rule_not_beyond side rule n m }
+    requires missing_within { missing rule ≤ most_missing side }
+    requires in_reach { InReach side since.n since.m }
+    ensures { result ≡ rule_not_beyond side rule since.n since.m }
 {
     let gap = missing_speed(rule);
-    let a = rule.strength;
-    if a * n < gap * m {
-        return arc_not_beyond(side, rule, n, m);
+    if rule.strength * since.n < gap * since.m {
+        return arc_not_beyond(side, rule, since);
     }
-    straight_not_beyond(side, rule, gap, n, m)
+    straight_not_beyond(side, rule, gap, since)
 }
 
-// f against w·h + k: up to d the delay, then the rule.
-fn lower_not_beyond(s: SensedQuestion, n: u64, m: u64) -> bool
-    requires sizes { Sizes s }
-    requires in_reach { InReach Lower n m }
-    ensures { result ≡ not_beyond Lower s n m }
+// Is a side's path "not strictly beyond" the puck's edge at an instant? Up to d the delay says, then the rule.
+pub fn not_beyond(asked: SideQuestion, t: Instant) -> bool
+    requires { InReach asked.side t.n t.m }
+    ensures { result ≡ not_beyond asked.side asked.question.sensed t.n t.m }
 {
-    let d = s.delay;
-    let end = d * m;
-    if n <= end {
-        return delay_not_beyond(Side::Lower, s, n, m);
+    let end = asked.question.sensed.delay * t.m;
+    if t.n <= end {
+        return delay_not_beyond(asked, t);
     }
-    let rule = advice_rule(Side::Lower, s);
-    rule_not_beyond(Side::Lower, rule, n - end, m)
-}
-
-// j against w·h − k, likewise.
-fn upper_not_beyond(s: SensedQuestion, n: u64, m: u64) -> bool
-    requires sized { Sized Upper s }
-    requires in_reach { InReach Upper n m }
-    ensures { result ≡ not_beyond Upper s n m }
-{
-    let d = s.delay;
-    let end = d * m;
-    if n <= end {
-        return delay_not_beyond(Side::Upper, s, n, m);
-    }
-    let rule = advice_rule(Side::Upper, s);
-    rule_not_beyond(Side::Upper, rule, n - end, m)
-}
-
-// Is a side's path "not strictly beyond" the puck's edge at n/m?
-pub fn not_beyond(side: Side, s: SensedQuestion, n: u64, m: u64) -> bool
-    requires sized { Sized side s }
-    requires in_reach { InReach side n m }
-    ensures { result ≡ not_beyond side s n m }
-{
-    match side {
-        Side::Lower => lower_not_beyond(s, n, m),
-        Side::Upper => upper_not_beyond(s, n, m),
-    }
-}
-
-// The same at a whole second. A search has a function of its own to ask, which the compiler repeats in its loop.
-pub fn second_not_beyond(side: Side, s: SensedQuestion, n: u64) -> bool
-    requires sized { Sized side s }
-    requires in_reach { InReach side n 1 }
-    ensures { result ≡ not_beyond side s n 1 }
-{
-    match side {
-        Side::Lower => lower_not_beyond(s, n, 1),
-        Side::Upper => upper_not_beyond(s, n, 1),
-    }
+    let since = Instant {
+        n: t.n - end,
+        m: t.m,
+    };
+    rule_not_beyond(asked.side, advice_rule(asked), since)
 }

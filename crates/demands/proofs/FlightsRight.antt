@@ -1,29 +1,23 @@
 -- The answer to a flight is right, from `flight`'s theorems; and where the judge's answer is clear, an obeying flight is kept out of the puck. Assumes nothing.
+use Rattle.std.specs.Prelude.{Err, None, Ok, Option, Result, Some, ⊤}
 use mathlib.Core.Path.{◌≡◌, refl, sym, ap, subst, ◌∙◌}
 use mathlib.Core.Bool.{Bool, true, false}
 use mathlib.Core.List.{List}
-use Prim.Native.Nat.{ℕ, ◌<◌}
-use native.Mathlib.Omega.{arith}
-use borrow.Author.Tests.{ne_eqb}
+use Prim.Native.Nat.{ℕ}
 use lib.Dec.{T}
 use lib.IntN.{ℤ}
-use Rattle.integers.proofs.Branches.{picks_no}
 use Rattle.path.specs.declared.SensedQuestion.{SensedQuestion}
 use Rattle.question.specs.declared.Encounter.{Encounter}
 use Rattle.question.specs.declared.Settings.{Settings}
-use Rattle.question.specs.declared.Checked.{Checked}
+use Rattle.question.specs.declared.Question.{Question}
 use Rattle.verdict.specs.declared.ClearSides.{ClearSides}
 use Rattle.verdict.specs.declared.Verdict.{Verdict}
 use Rattle.verdict.specs.declared.Verdict.TheVariants.{Clear}
 use Rattle.verdict.specs.Verdicts.{verdict}
-use Rattle.judge.specs.declared.Answer.{Answer}
-use Rattle.judge.specs.Answers.{answer, answer_record}
+use Rattle.judge.specs.Answers.{answer}
 use Rattle.judge.specs.Demand3.{SaysConflict}
 use Rattle.judge.proofs.Demand3.{judged}
-use Rattle.judge.proofs.AnswerRecords.{record_determines}
 use Rattle.flight.specs.declared.Stretch.{Stretch}
-use Rattle.flight.specs.declared.PuckEntry.{PuckEntry}
-use Rattle.flight.specs.declared.PuckEntry.TheVariants.{Never, During}
 use Rattle.flight.specs.HandedIn.{flight_of}
 use Rattle.flight.specs.inner.Tests.{obeys_test, first_inside}
 use Rattle.flight.proofs.Decides.{decided_yes}
@@ -31,25 +25,35 @@ use Rattle.flight.proofs.ObeyingTests.{obeys_decided}
 use Rattle.flight.proofs.InsideTests.{right_entry}
 use Rattle.flight.proofs.ClearVerdict.{accepted_half_height, clear_never_inside}
 use Rattle.candidate.specs.declared.OneSidedAdvice.{OneSidedAdvice}
-use Rattle.candidate.specs.declared.FlightAnswer.{FlightAnswer}
-use Rattle.candidate.specs.declared.FlightAnswer.TheVariants.{Flown}
-use Rattle.candidate.specs.Advice.{asked, flight_checks, flight_refusal}
-use Rattle.candidate.specs.FlightAnswers.{advice_in_sense, flight_in_sense, checked_flight, flight_answer, flight_record}
+use Rattle.candidate.specs.Advice.{asked, flight_refusal}
+use Rattle.candidate.specs.FlightAnswers.{yes_number, advice_in_sense, flight_in_sense, checked_flight, flight_answer}
 use Rattle.candidate.proofs.RefusedAsAsked.{accepted_flight}
-use Rattle.candidate.proofs.FlightRecords.{flight_determined}
 use Rattle.binding.specs.declared.FlightResult.{FlightResult}
-use Rattle.binding.specs.Flight.{flat_flight}
+use Rattle.binding.specs.Flight.{flat_entry, flat_flight}
 use Rattle.demands.specs.Flights.{RightlyFlown, ClearKeepsOut, flight_in}
-use Rattle.demands.proofs.ScreenExported.{first_number}
+use Rattle.demands.proofs.RefusalNumbers.{number_held}
+use Rattle.question.specs.declared.refusal.Refusal.{Refusal}
+use Rattle.candidate.specs.declared.Flown.{Flown}
+use Rattle.question.specs.RefusalNumbers.{with_number}
 
 -- a flown flight was accepted, and the answer is that of the tests
-record Accepting (k : Checked) (s : SensedQuestion) (f : List Stretch) (o : Bool) : Type 0 where
-  accepted : k ≡ Checked.Accepted
+record Accepting (k : Result ⊤ Refusal) (s : SensedQuestion) (f : List Stretch) (o : Bool) : Type 0 where
+  accepted : k ≡ Ok tt
   obeys : obeys_test s f ≡ o
 
-flown_accepted : (k : Checked) (s : SensedQuestion) (f : List Stretch) (o : Bool) (e : PuckEntry) → checked_flight k s f ≡ Flown o e → Accepting k s f o
-flown_accepted Checked.Accepted s f o e h = record { accepted = refl; obeys = cc }
-flown_accepted (Checked.Refused n) s f o e h = let z : ◌≡◌ {A = ℕ} 0 1 = cc in absurd (omega arith)
+abbrev tested : SensedQuestion → List Stretch → Flown
+tested s f = record { obeys = obeys_test s f; inside = first_inside s f }
+
+flown_accepted : (k : Result ⊤ Refusal) (s : SensedQuestion) (f : List Stretch) (flown : Flown) → checked_flight k s f ≡ Ok flown → Accepting k s f flown.obeys
+flown_accepted (Ok _) s f flown e = let same : tested s f ≡ flown = cc in record { accepted = refl; obeys = ap (λ (v : Flown). v.obeys) same }
+flown_accepted (Err why) s f flown e = cc
+
+-- the answer of the definitions by its check, with a refusal's number
+abbrev numbered_flight : SensedQuestion → List Stretch → Result ⊤ Refusal → Result Flown ℕ
+numbered_flight s f k = with_number (checked_flight k s f)
+
+said : (v : Verdict) (sides : ClearSides) → ◌≡◌ {A = Result Verdict Refusal} (Ok v) (Ok (Clear sides)) → v ≡ Clear sides
+said v sides e = cc
 
 not_conflict : (v : Verdict) (sides : ClearSides) → v ≡ Clear sides → ¬ SaysConflict v
 not_conflict v sides e h = subst SaysConflict e h
@@ -61,63 +65,52 @@ module _ (x : Encounter) (y : Settings) (z : OneSidedAdvice) (l : List ℤ) wher
   abbrev f : List Stretch
   f = flight_in_sense z l
 
-  pub flight_right : RightlyFlown x y z l (flight_answer x y z l)
+  pub flight_right : RightlyFlown x y z l (with_number (flight_answer x y z l))
   unfolding flight_answer
   flight_right = record {
-    refused = λ number e. ap (λ (k : Checked). checked_flight k s f) e;
+    refused = λ why e. ap (numbered_flight s f) e;
     flown = λ e. (
       obeys_test s f,
       first_inside s f,
-      ap (λ (k : Checked). checked_flight k s f) e,
+      ap (numbered_flight s f) e,
       (λ t. (obeys_decided s f).yes (subst T (sym t) tt), λ o. decided_yes (obeys_decided s f) o),
       right_entry s f (accepted_half_height x y (asked z) (accepted_flight x y z l e).0),
     );
   }
 
-  pub rightly : (r : FlightAnswer) → flight_record r ≡ flight_record (flight_answer x y z l) → RightlyFlown x y z l r
-  rightly r e = subst (RightlyFlown x y z l) (sym (flight_determined r (flight_answer x y z l) e)) flight_right
+  pub rightly : (r : Result Flown Refusal) → r ≡ flight_answer x y z l → RightlyFlown x y z l (with_number r)
+  rightly r e = subst (λ (a : Result Flown Refusal). RightlyFlown x y z l (with_number a)) (sym e) flight_right
 
   -- ---- where the verdict is clear
-  accepting : (o : Bool) (e : PuckEntry) → flight_answer x y z l ≡ Flown o e → Accepting (flight_refusal x y z l) s f o
+  accepting : (flown : Flown) → flight_answer x y z l ≡ Ok flown → Accepting (flight_refusal x y z l) s f flown.obeys
   unfolding flight_answer
-  accepting o e h = flown_accepted (flight_refusal x y z l) s f o e h
+  accepting flown e = flown_accepted (flight_refusal x y z l) s f flown e
 
   clear_right : ClearKeepsOut x y z l (answer x y (asked z)) (flight_answer x y z l)
   clear_right = record {
-    judged_too = λ o e h. (verdict (asked z) s, judged x y (asked z) (accepted_flight x y z l (accepting o e h).accepted).0);
-    kept_out = λ sides e clear h.
-        let a = accepting true e h in
+    judged_too = λ flown e. (verdict (asked z) s, judged x y (asked z) (accepted_flight x y z l (accepting flown e).accepted).0);
+    kept_out = λ sides flown clear e obeying.
+        let a = accepting flown e in
         let accepted = (accepted_flight x y z l a.accepted).0 in
         let same : verdict (asked z) s ≡ Clear sides = said (verdict (asked z) s) sides (sym (judged x y (asked z) accepted) ∙ clear) in
-        clear_never_inside x y (asked z) accepted refl (not_conflict (verdict (asked z) s) sides same) (flight_of l) ((obeys_decided s f).yes (subst T (sym a.obeys) tt));
+        clear_never_inside x y (asked z) accepted refl (not_conflict (verdict (asked z) s) sides same) (flight_of l) ((obeys_decided s f).yes (subst T (sym (a.obeys ∙ obeying)) tt));
   }
-    where
-      said : (v : Verdict) (sides : ClearSides) → Answer.Judged v ≡ Answer.Judged (Clear sides) → v ≡ Clear sides
-      said v sides e = cc
 
-  pub kept_out : (r : Answer) (t : FlightAnswer) → answer_record r ≡ answer_record (answer x y (asked z)) → flight_record t ≡ flight_record (flight_answer x y z l) → ClearKeepsOut x y z l r t
-  kept_out r t e g =
-      subst (λ (j : Answer). ClearKeepsOut x y z l j t) (sym (record_determines r (answer x y (asked z)) e))
-      (subst (ClearKeepsOut x y z l (answer x y (asked z))) (sym (flight_determined t (flight_answer x y z l) g)) clear_right)
+  pub kept_out : (q : Question) (r : Result Verdict Refusal) (t : Result Flown Refusal) → q ≡ asked z → r ≡ answer x y q → t ≡ flight_answer x y z l → ClearKeepsOut x y z l r t
+  kept_out q r t a e g =
+      subst (λ (j : Result Verdict Refusal). ClearKeepsOut x y z l j t) (sym (e ∙ ap (answer x y) a))
+      (subst (ClearKeepsOut x y z l (answer x y (asked z))) (sym g) clear_right)
 
-  -- ---- in numbers
-  refusal_number : (n : ℕ) → flight_refusal x y z l ≡ Checked.Refused n → 0 < n
-  unfolding flight_refusal
-  refusal_number = first_number (flight_checks x y z l) tt
+-- ---- in numbers
+entry_held : (o : Bool) (e : Option ℕ) → flight_in (flat_entry (yes_number o) e) ≡ Ok (record { obeys = o; inside = e })
+entry_held true None = refl
+entry_held true (Some n) = refl
+entry_held false None = refl
+entry_held false (Some n) = refl
 
-  entry_held : (o : Bool) (e : PuckEntry) → flight_in (flat_flight (Flown o e)) ≡ Flown o e
-  entry_held true Never = refl
-  entry_held true (During n) = refl
-  entry_held false Never = refl
-  entry_held false (During n) = refl
+flight_held : (r : Result Flown Refusal) → flight_in (flat_flight r) ≡ with_number r
+flight_held (Ok flown) = entry_held flown.obeys flown.inside
+flight_held (Err why) = number_held why _
 
-  flight_held : (k : Checked) → ((n : ℕ) → k ≡ Checked.Refused n → 0 < n) → flight_in (flat_flight (checked_flight k s f)) ≡ checked_flight k s f
-  flight_held Checked.Accepted h = entry_held (obeys_test s f) (first_inside s f)
-  flight_held (Checked.Refused n) h = picks_no _ _ _ (ne_eqb n 0 (omega (arith, h n refl)))
-
-  answer_held : flight_in (flat_flight (flight_answer x y z l)) ≡ flight_answer x y z l
-  unfolding flight_answer
-  answer_held = flight_held (flight_refusal x y z l) refusal_number
-
-  pub rightly_exported : (out : FlightResult) → out ≡ flat_flight (flight_answer x y z l) → RightlyFlown x y z l (flight_in out)
-  rightly_exported out e = subst (RightlyFlown x y z l) (sym (ap flight_in e ∙ answer_held)) flight_right
+pub rightly_exported : (x : Encounter) (y : Settings) (z : OneSidedAdvice) (l : List ℤ) (out : FlightResult) → out ≡ flat_flight (flight_answer x y z l) → RightlyFlown x y z l (flight_in out)
+rightly_exported x y z l out e = subst (RightlyFlown x y z l) (sym (ap flight_in e ∙ flight_held (flight_answer x y z l))) (flight_right x y z l)

@@ -1,3 +1,4 @@
+pub mod RefusalNumbers
 pub mod PlainAnswers
 pub mod MaintainAnswers
 pub mod SheetAnswers

@@ -1,13 +1,12 @@
 -- The demands of an answer to plain numbers, from the judge's theorems: demand 3 with its conflict times spelled out, demand 2 for one-sided questions, the band for
 -- two-sided ones. Assumes nothing.
+use Rattle.std.specs.Prelude.{None, Ok, Option, Result, Some, ⊤}
 use mathlib.Core.Path.{◌≡◌, refl, sym, ap, subst}
 use mathlib.Core.Bool.{Bool, true, false}
 use mathlib.Core.Logic.Iff
 use mathlib.Core.Logic.{◌↔◌}
 use Prim.Native.Nat.{ℕ}
 use Rattle.instant.specs.declared.Time.{Time}
-use Rattle.path.specs.declared.Limit.{Limit}
-use Rattle.path.specs.declared.Limit.TheVariants.{Unlimited, Upto}
 use Rattle.path.specs.declared.SensedQuestion.{SensedQuestion}
 use Rattle.path.specs.declared.Side.{Side}
 use Rattle.path.specs.declared.Side.TheVariants.{Lower, Upper}
@@ -16,29 +15,27 @@ use Rattle.path.specs.Conflict as conflict
 use Rattle.question.specs.declared.Encounter.{Encounter}
 use Rattle.question.specs.declared.Settings.{Settings}
 use Rattle.question.specs.declared.Question.{Question}
-use Rattle.question.specs.declared.Checked.{Checked}
 use Rattle.question.specs.Refusals.{two_sided, refusal}
 use Rattle.sensed.specs.Sensed.{sensed_question}
 use Rattle.verdict.specs.declared.ClearSides.{ClearSides}
 use Rattle.verdict.specs.declared.Verdict.{Verdict}
 use Rattle.verdict.specs.declared.Verdict.TheVariants.{Clear, Conflict, Conflicts}
 use Rattle.verdict.specs.Verdicts.{verdict}
-use Rattle.judge.specs.declared.Answer.{Answer}
-use Rattle.judge.specs.Answers.{checked_answer, answer, answer_record}
+use Rattle.judge.specs.Answers.{checked_answer, answer}
 use Rattle.judge.specs.Demand3 as judge
 use Rattle.judge.proofs.Demand3.{judged, demand_3, one_sided_exactly, two_sided_exactly}
-use Rattle.judge.proofs.AnswerRecords.{record_determines}
 use Rattle.judge.proofs.WithoutDelay.{answer_without_delay}
 use Rattle.region.proofs.VerdictRegion.{clear_is_delayed_region, clear_is_immediate_region}
 use Rattle.band.proofs.AcceptedBand.{clear_outside_band}
 use Rattle.demands.specs.Demand2.{Demand2}
 use Rattle.demands.specs.Demand3.{WithinLimit, NotStrictlyBeyond, ConflictAt, SomeConflict, ConflictOnEachSide, SaysConflict, Shown, Said}
 use Rattle.demands.specs.PlainAnswer.{JudgedAs, RightlyAnswered}
+use Rattle.question.specs.declared.refusal.Refusal.{Refusal}
 
 -- ---- conflict times spelled out
-limited : (l : Limit) (n m : ℕ) → InTime l n m ↔ WithinLimit l n m
-limited Unlimited n m = (λ h. h, λ h. h)
-limited (Upto limit) n m = (λ h. h, λ h. h)
+limited : (l : Option ℕ) (n m : ℕ) → InTime l n m ↔ WithinLimit l n m
+limited None n m = (λ h. h, λ h. h)
+limited (Some limit) n m = (λ h. h, λ h. h)
 
 vertical : (side : Side) (s : SensedQuestion) (n m : ℕ) → conflict.NotBeyond side s n m ↔ NotStrictlyBeyond side s n m
 vertical Lower s n m = (λ h. h, λ h. h)
@@ -90,7 +87,7 @@ says (Clear sides) = (λ h. h, λ h. h)
 says (Conflict t) = (λ h. h, λ h. h)
 says (Conflicts t u) = (λ h. h, λ h. h)
 
-module _ (x : Encounter) (y : Settings) (z : Question) (accepted : refusal x y z ≡ Checked.Accepted) where
+module _ (x : Encounter) (y : Settings) (z : Question) (accepted : refusal x y z ≡ Ok tt) where
   exactly : (two : Bool) → two_sided z ≡ two → SaysConflict (verdict z (sensed_question x y z)) ↔ ConflictOnEachSide two (sensed_question x y z)
   exactly false e =
       let s = sensed_question x y z in
@@ -114,16 +111,16 @@ module _ (x : Encounter) (y : Settings) (z : Question) (accepted : refusal x y z
     figure_3 = λ no-limit at_once. (clear_is_immediate_region x y z accepted one no-limit at_once).by_result (answer x y z) refl;
   }
 
--- ---- the answer of the definitions, and so every answer with its record
+-- ---- the answer of the definitions
 pub answer_right : (x : Encounter) (y : Settings) (z : Question) → RightlyAnswered x y z (answer x y z)
 unfolding answer
 answer_right x y z = record {
-  refused = λ number e. ap (λ (k : Checked). checked_answer k (verdict z (sensed_question x y z))) e;
+  refused = λ why e. ap (λ (k : Result ⊤ Refusal). checked_answer k (verdict z (sensed_question x y z))) e;
   judged = judged_as x y z;
   one_sided_lem = region x y z;
   two_sided_lem = clear_outside_band x y z;
   without_delay = answer_without_delay x y z;
 }
 
-pub rightly : (x : Encounter) (y : Settings) (z : Question) (r : Answer) → answer_record r ≡ answer_record (answer x y z) → RightlyAnswered x y z r
-rightly x y z r e = subst (RightlyAnswered x y z) (sym (record_determines r (answer x y z) e)) (answer_right x y z)
+pub rightly : (x : Encounter) (y : Settings) (z : Question) (r : Result Verdict Refusal) → r ≡ answer x y z → RightlyAnswered x y z r
+rightly x y z r e = subst (RightlyAnswered x y z) (sym e) (answer_right x y z)

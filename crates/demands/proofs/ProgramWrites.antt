@@ -1,12 +1,11 @@
 -- The demands of what the program writes: the answer of an accepted sheet, for which its area is ample, or the refusal's record. Assumes nothing.
+use Rattle.std.specs.Prelude.{Ok, Result}
 use mathlib.Core.Path.{◌≡◌, sym, ap, subst, ◌∙◌}
 use mathlib.Core.List.{List}
 use Prim.Native.Nat.{ℕ}
 use lib.ListN.{length, take, drop, replicate}
 use lib.Seq.{take-append_seam}
-use Rattle.question.specs.declared.Checked.{Checked}
 use Rattle.record.specs.SheetCheck.{sheet_check}
-use Rattle.sheet.specs.declared.Outcome.{Outcome}
 use Rattle.sheet.specs.WholeSheet.{sheet_answer}
 use Rattle.sheet.proofs.WholeSheetRefusals.{ample_area}
 use Rattle.program.specs.Output.{answer_room, written_for, program_output, area_with}
@@ -14,14 +13,15 @@ use Rattle.program.proofs.ReadEnough.{refused_output}
 use Rattle.demands.specs.Sheets.{EachRecord}
 use Rattle.demands.specs.Program.{Written}
 use Rattle.demands.proofs.SheetAnswers.{each}
+use Rattle.question.specs.declared.refusal.Refusal.{Refusal}
 
-answered_output : (sheet : List ℕ) → sheet_check sheet ≡ Checked.Accepted → program_output sheet ≡ sheet_answer sheet
+answered_output : (sheet : List ℕ) → sheet_check sheet ≡ Ok tt → program_output sheet ≡ sheet_answer sheet
 unfolding program_output
-answered_output sheet e = ap (λ (o : Outcome). written_for o (sheet_answer sheet)) (ample_area sheet e)
+answered_output sheet e = ap (λ (o : Result ℕ Refusal). written_for o (sheet_answer sheet)) (ample_area sheet e)
 
 written : (sheet : List ℕ) → Written sheet (program_output sheet)
 written sheet = record {
-  refused = λ number e. refused_output sheet number e;
+  refused = refused_output sheet;
   answered = λ e. let output = answered_output sheet e in (output, subst (EachRecord sheet) (sym output) (each sheet));
 }
 

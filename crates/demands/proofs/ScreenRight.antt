@@ -1,5 +1,6 @@
 -- The demands of a drawing and of a screen point, from `screen`'s theorems: a piece's time as it is shown is its time as a fraction, and so are the order
 -- of two and what lies between them. Assumes nothing.
+use Rattle.std.specs.Prelude.{Err, Ok, Result, ⊤}
 use mathlib.Core.Path.{◌≡◌, refl, sym, ap, subst, ◌∙◌}
 use mathlib.Core.Bool.{Bool, true, false, cond}
 use mathlib.Core.List.{List, [], ◌∷◌, ◌++◌}
@@ -24,7 +25,6 @@ use Rattle.path.specs.inner.Sizes.{Sizes}
 use Rattle.question.specs.declared.Encounter.{Encounter}
 use Rattle.question.specs.declared.Settings.{Settings}
 use Rattle.question.specs.declared.Question.{Question}
-use Rattle.question.specs.declared.Checked.{Checked}
 use Rattle.question.specs.Refusals.{is_number, refusal}
 use Rattle.sensed.specs.Sensed.{sensed_question}
 use Rattle.sensed.proofs.AcceptedSizes.{accepted_sizes}
@@ -36,14 +36,17 @@ use Rattle.pieces.proofs.Fields.{delay_sizes, arc_sizes, last_sizes}
 use Rattle.pieces.proofs.PathPieces.{right_pieces}
 use Rattle.screen.specs.declared.Piece.{Piece}
 use Rattle.screen.specs.declared.DrawnPiece.{DrawnPiece}
-use Rattle.screen.specs.declared.PointAnswer.{PointAnswer}
+use Rattle.screen.specs.declared.Drawing.{Drawing}
 use Rattle.screen.specs.Floats.{float}
-use Rattle.screen.specs.Drawings.{float_piece, drawn_piece, all_drawn, drawn_pieces, drawn, checked_content, screen_drawing}
+use Rattle.screen.specs.Drawings.{float_piece, drawn_piece, all_drawn, drawn_pieces, content, checked_content, screen_drawing}
 use Rattle.screen.specs.Points.{screen_point}
 use Rattle.screen.specs.RightScreen.{IsStraight, ExactPiece, ExactOnTheWay, RightPointAnswer}
 use Rattle.screen.proofs.Evaluation.{evaluated_exact}
 use Rattle.screen.proofs.DrawnPath.{exact_piece, accepted_second, second_above, refused_second, refused_drawing}
 use Rattle.demands.specs.Screen.{HasCoefficients, BeforeNext, HasLength, DrawsStretch, EachDraws, StartsAt, later_times, rule_changes, Kept, DrawsPath, RightlyDrawn, OnPath, RightlyPlaced}
+use Rattle.question.specs.declared.refusal.Refusal.{Refusal}
+use Rattle.question.specs.RefusalNumbers.{with_number}
+use Rattle.screen.specs.declared.ScreenPoint.{ScreenPoint}
 
 -- ---- the time shown of n/m
 module _ (p : WholePiece) (h : 0 < p.from.m) where
@@ -172,23 +175,29 @@ module _ (x : Encounter) (y : Settings) (z : Question) where
   abbrev asked : SensedQuestion
   asked = sensed_question x y z
 
-  accepted_content : refusal x y z ≡ Checked.Accepted → screen_drawing x y z ≡ drawn (drawn_pieces asked)
+  accepted_content : refusal x y z ≡ Ok tt → screen_drawing x y z ≡ Ok (drawn_pieces asked)
   unfolding screen_drawing
-  accepted_content e = ap (λ (k : Checked). checked_content k (drawn_pieces asked)) e
+  accepted_content e = ap (λ (k : Result ⊤ Refusal). checked_content k (drawn_pieces asked)) e
 
-  pub drawing_right : RightlyDrawn x y z (screen_drawing x y z)
+  abbrev numbered : Result (List DrawnPiece) Refusal → Result (List DrawnPiece) ℕ
+  numbered c = with_number c
+
+  pub drawing_right : RightlyDrawn x y z (with_number (screen_drawing x y z))
   drawing_right = record {
-    refused = refused_drawing x y z;
-    drawn = λ e. (drawn_pieces asked, accepted_content e, draws_path asked (accepted_sizes x y z e));
+    refused = λ why e. ap numbered (refused_drawing x y z why e);
+    drawn = λ e. (drawn_pieces asked, ap numbered (accepted_content e), draws_path asked (accepted_sizes x y z e));
   }
+
+  pub rightly_drawn : (d : Result Drawing Refusal) → content d ≡ screen_drawing x y z → RightlyDrawn x y z (with_number (content d))
+  rightly_drawn d e = subst (RightlyDrawn x y z) (sym (ap numbered e)) drawing_right
 
   module _ (t : ℕ) where
     abbrev held : WholePiece
     held = piece_at asked (t ÷ 1)
 
-    on_path : (r : PointAnswer) → RightPointAnswer asked t r → (p : _) × (r ≡ PointAnswer.Drawn p) × OnPath asked t p
-    on_path (PointAnswer.Refused n) h = absurd h
-    on_path (PointAnswer.Drawn p) h = (
+    on_path : (r : Result ScreenPoint Refusal) → RightPointAnswer asked t r → (p : ScreenPoint) × (with_number r ≡ Ok p) × OnPath asked t p
+    on_path (Err why) h = absurd h
+    on_path (Ok p) h = (
       p,
       refl,
       record {
@@ -198,9 +207,15 @@ module _ (x : Encounter) (y : Settings) (z : Question) where
       },
     )
 
-    pub point_right : RightlyPlaced x y z t (screen_point x y z t)
+    abbrev point_numbered : Result ScreenPoint Refusal → Result ScreenPoint ℕ
+    point_numbered r = with_number r
+
+    pub point_right : RightlyPlaced x y z t (with_number (screen_point x y z t))
     point_right = record {
-      refused = refused_second x y z t;
-      late = second_above x y z t;
+      refused = λ why e. ap point_numbered (refused_second x y z t why e);
+      late = λ e l. ap point_numbered (second_above x y z t e l);
       drawn = λ e l. on_path (screen_point x y z t) (accepted_second x y z t e l);
     }
+
+    pub rightly_placed : (r : Result ScreenPoint Refusal) → r ≡ screen_point x y z t → RightlyPlaced x y z t (with_number r)
+    rightly_placed r e = subst (RightlyPlaced x y z t) (sym (ap point_numbered e)) point_right

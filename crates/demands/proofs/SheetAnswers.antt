@@ -1,5 +1,6 @@
 -- The demands of an answered sheet, from the sheet's theorems: its refusals, its bytes, and each of its records in its place. Assumes nothing.
-use mathlib.Core.Path.{◌≡◌, sym, ap, subst, ◌∙◌}
+use Rattle.std.specs.Prelude.{Err, Ok, Option, Result, Some}
+use mathlib.Core.Path.{◌≡◌, refl, sym, ap, subst, ◌∙◌}
 use mathlib.Core.Bool.{Bool, false}
 use mathlib.Core.List.{List, ◌∷◌, ◌++◌}
 use Prim.Native.Nat.{ℕ, ◌<◌}
@@ -7,27 +8,20 @@ use borrow.Author.Tests.{le-leb, lt-leb}
 use lib.Dec.{T}
 use lib.Ieee.Bits.{is_true}
 use lib.IntN.{ℤ}
-use lib.ListN.{length}
+use lib.ListN.{length, drop}
 use Rattle.advisory.specs.Catalogue.{CodeWithin}
 use Rattle.question.specs.declared.Encounter.{Encounter}
 use Rattle.question.specs.declared.Question.{Question}
-use Rattle.question.specs.declared.Checked.{Checked}
 use Rattle.limits.specs.Limits.{no_limit}
 use Rattle.question.specs.Refusals.{encounter_within, puck_within, delay_acceleration_within}
-use Rattle.coded.specs.declared.CodedQuestion.{CodedQuestion}
 use Rattle.coded.specs.Coded.{coded_question}
 use Rattle.coded.proofs.EarlierCodes.{issued}
 use Rattle.integers.proofs.Branches.{picks_yes, picks_no}
-use Rattle.judge.specs.declared.Answer.{Answer}
 use Rattle.judge.specs.Answers.{answer, answer_record}
 use Rattle.record.specs.declared.Record.{Record}
 use Rattle.record.specs.Records.{records}
 use Rattle.record.specs.SheetCheck.{longest_sheet, sheet_check}
-use Rattle.reply.specs.declared.Reply.{Reply}
-use Rattle.reply.specs.declared.Reply.TheVariants.{Answered}
 use Rattle.reply.specs.AnswerBytes.{reply_bytes}
-use Rattle.answering.specs.declared.LastEncounter.{LastEncounter}
-use Rattle.answering.specs.declared.LastEncounter.TheVariants.{Present}
 use Rattle.answering.specs.declared.State.{State}
 use Rattle.answering.specs.States as states
 use Rattle.answering.specs.States.{starting_state, with_puck, with_delay_acceleration, state_after, state_after_all}
@@ -35,55 +29,56 @@ use Rattle.answering.specs.Replies.{settings_reply, asked_answer, coded_answer, 
 use Rattle.answering.proofs.StoredWithinLimits.{stored_within}
 use Rattle.answering.proofs.RefusalOrder.{free_order, coded_order}
 use Rattle.region.proofs.VerdictRegion.{sixteen_codes}
-use Rattle.sheet.specs.declared.Outcome.{Outcome}
-use Rattle.sheet.specs.WholeSheet.{answers_from, sheet_answer, outcome, area_for, area_after, outcome_record}
+use Rattle.sheet.specs.WholeSheet.{answers_from, sheet_answer, outcome, area_for, area_after}
 use Rattle.sheet.proofs.RecordsInOrder.{each_record}
-use Rattle.sheet.proofs.WholeSheetRefusals.{refused_in_any_area, too_short, long_enough, refused_unchanged}
-use Rattle.sheet.proofs.OutcomeRecords.{outcome_determines}
+use Rattle.sheet.proofs.WholeSheetRefusals.{refused_in_any_area, too_short, long_enough}
 use Rattle.demands.specs.Demand2.{CodeDemand2}
 use Rattle.demands.specs.Maintain.{NeverIssued}
 use Rattle.demands.specs.PlainAnswer.{RightlyAnswered}
 use Rattle.demands.specs.Sheets.{AnsweredBy, FreeAnswered, CodedAnswered, EachRecord, SheetAnswered}
 use Rattle.demands.proofs.PlainAnswers.{answer_right}
 use Rattle.demands.proofs.MaintainAnswers.{maintain_answered}
+use Rattle.question.specs.declared.refusal.Refusal.{Refusal}
+use Rattle.question.specs.RefusalNumbers.{with_number}
+use Rattle.verdict.specs.declared.Verdict.{Verdict}
 
 -- ---- a record in its place
 module _ (sheet : List ℕ) (earlier : List Record) (given : Record) (later : List Record) (here : records sheet ≡ earlier ++ (given ∷ later)) where
   abbrev st : State
   st = state_after_all starting_state earlier
 
-  abbrev Place : Answer → Type 0
+  abbrev Place : Result Verdict Refusal → Type 0
   Place = AnsweredBy (sheet_answer sheet) earlier given later
 
-  placed : (r : Answer) → reply_to st given ≡ Answered r → Place r
+  placed : (r : Result Verdict Refusal) → reply_to st given ≡ Some r → Place r
   placed r e =
       each_record sheet earlier given later here
-      ∙ ap (λ (reply : Reply). answers_from starting_state earlier ++ (reply_bytes reply ++ answers_from (state_after st given) later)) e
+      ∙ ap (λ (reply : Option (Result Verdict Refusal)). answers_from starting_state earlier ++ (reply_bytes reply ++ answers_from (state_after st given) later)) e
 
-  settings_refused : (within : Bool) (number : ℕ) → within ≡ false → settings_reply within number ≡ Answered (Answer.Refused number)
-  settings_refused within number e = ap (λ (b : Bool). settings_reply b number) e
+  settings_refused : (within : Bool) (why : Refusal) → within ≡ false → settings_reply within why ≡ Some (Err why)
+  settings_refused within why e = ap (λ (b : Bool). settings_reply b why) e
 
   reply_of : {r : Record} → given ≡ r → reply_to st given ≡ reply_to st r
   reply_of e = ap (reply_to st) e
 
-  encounter_refused : (x : Encounter) → given ≡ Record.Encounter x → encounter_within x ≡ false → Place (Answer.Refused 1)
+  encounter_refused : (x : Encounter) → given ≡ Record.Encounter x → encounter_within x ≡ false → Place (Err Refusal.EncounterOutside)
   unfolding reply_to
-  encounter_refused x g e = placed (Answer.Refused 1) (reply_of g ∙ settings_refused (encounter_within x) 1 e)
+  encounter_refused x g e = placed (Err Refusal.EncounterOutside) (reply_of g ∙ settings_refused (encounter_within x) Refusal.EncounterOutside e)
 
-  puck_refused : (p k : ℤ) → given ≡ Record.Puck p k → puck_within (with_puck st.settings p k) ≡ false → Place (Answer.Refused 2)
+  puck_refused : (p k : ℤ) → given ≡ Record.Puck p k → puck_within (with_puck st.settings p k) ≡ false → Place (Err Refusal.PuckOutside)
   unfolding reply_to
-  puck_refused p k g e = placed (Answer.Refused 2) (reply_of g ∙ settings_refused (puck_within (with_puck st.settings p k)) 2 e)
+  puck_refused p k g e = placed (Err Refusal.PuckOutside) (reply_of g ∙ settings_refused (puck_within (with_puck st.settings p k)) Refusal.PuckOutside e)
 
-  acceleration_refused : (e : ℤ) → given ≡ Record.DelayAcceleration e → delay_acceleration_within (with_delay_acceleration st.settings e) ≡ false → Place (Answer.Refused 3)
+  acceleration_refused : (e : ℤ) → given ≡ Record.DelayAcceleration e → delay_acceleration_within (with_delay_acceleration st.settings e) ≡ false → Place (Err Refusal.DelayAccelerationOutside)
   unfolding reply_to
-  acceleration_refused a g e = placed (Answer.Refused 3) (reply_of g ∙ settings_refused (delay_acceleration_within (with_delay_acceleration st.settings a)) 3 e)
+  acceleration_refused a g e = placed (Err Refusal.DelayAccelerationOutside) (reply_of g ∙ settings_refused (delay_acceleration_within (with_delay_acceleration st.settings a)) Refusal.DelayAccelerationOutside e)
 
   -- ---- questions
-  free_right : (met : LastEncounter) (z : Question) (x : Encounter) → met ≡ Present x → RightlyAnswered x st.settings z (free_answer met st.settings z)
+  free_right : (met : Option Encounter) (z : Question) (x : Encounter) → met ≡ Some x → RightlyAnswered x st.settings z (free_answer met st.settings z)
   unfolding free_answer
-  free_right met z x e = subst (λ (m : LastEncounter). RightlyAnswered x st.settings z (free_answer m st.settings z)) (sym e) (answer_right x st.settings z)
+  free_right met z x e = subst (λ (m : Option Encounter). RightlyAnswered x st.settings z (free_answer m st.settings z)) (sym e) (answer_right x st.settings z)
 
-  free_answered : (z : Question) → given ≡ Record.Free z → (r : Answer) × FreeAnswered (sheet_answer sheet) earlier given later z r
+  free_answered : (z : Question) → given ≡ Record.Free z → (r : Result Verdict Refusal) × FreeAnswered (sheet_answer sheet) earlier given later z r
   unfolding reply_to
   free_answered z g =
       let r = free_answer st.encounter st.settings z in (
@@ -96,20 +91,20 @@ module _ (sheet : List ℕ) (earlier : List Record) (given : Record) (later : Li
       )
 
   module _ (code : ℕ) (limit : ℤ) where
-    abbrev Coded : LastEncounter → Answer
+    abbrev Coded : Option Encounter → Result Verdict Refusal
     Coded met = coded_answer met st.settings code limit
 
-    asked_is : (met : LastEncounter) (x : Encounter) (z : Question) → met ≡ Present x → coded_question code x.speed limit ≡ CodedQuestion.Asked z → Coded met ≡ answer x st.settings z
+    asked_is : (met : Option Encounter) (x : Encounter) (z : Question) → met ≡ Some x → coded_question code x.speed limit ≡ Ok z → Coded met ≡ answer x st.settings z
     unfolding coded_answer
     asked_is met x z e q = ap Coded e ∙ ap (asked_answer x st.settings) q
 
-    coded_right : (x : Encounter) (z : Question) → st.encounter ≡ Present x → coded_question code x.speed limit ≡ CodedQuestion.Asked z → RightlyAnswered x st.settings z (Coded st.encounter)
+    coded_right : (x : Encounter) (z : Question) → st.encounter ≡ Some x → coded_question code x.speed limit ≡ Ok z → RightlyAnswered x st.settings z (Coded st.encounter)
     coded_right x z e q = subst (RightlyAnswered x st.settings z) (sym (asked_is st.encounter x z e q)) (answer_right x st.settings z)
 
-    encounter_within_lem : (met : LastEncounter) (x : Encounter) → met ≡ Present x → states.StoredEncounterWithin met → T (encounter_within x)
+    encounter_within_lem : (met : Option Encounter) (x : Encounter) → met ≡ Some x → states.StoredEncounterWithin met → T (encounter_within x)
     encounter_within_lem met x e w = subst states.StoredEncounterWithin e w
 
-    coded_region : (x : Encounter) → st.encounter ≡ Present x → CodeWithin 1 16 code → ¬ NeverIssued code x.speed → limit ≡ no_limit → CodeDemand2 x st.settings code (Coded st.encounter)
+    coded_region : (x : Encounter) → st.encounter ≡ Some x → CodeWithin 1 16 code → ¬ NeverIssued code x.speed → limit ≡ no_limit → CodeDemand2 x st.settings code (Coded st.encounter)
     coded_region x e range may no-limit =
         let w = stored_within earlier in
         let y = st.settings in
@@ -121,7 +116,7 @@ module _ (sheet : List ℕ) (earlier : List Record) (given : Record) (later : Li
               (ap answer_record (asked_is st.encounter x clear.question e (ap (coded_question code x.speed) no-limit ∙ clear.asked)));
         }
 
-  coded_answered : (code : ℕ) (limit : ℤ) → code < 256 → given ≡ Record.Coded code limit → (r : Answer) × CodedAnswered (sheet_answer sheet) earlier given later code limit r
+  coded_answered : (code : ℕ) (limit : ℤ) → code < 256 → given ≡ Record.Coded code limit → (r : Result Verdict Refusal) × CodedAnswered (sheet_answer sheet) earlier given later code limit r
   unfolding reply_to
   coded_answered code limit byte g =
       let r = coded_answer st.encounter st.settings code limit in (
@@ -145,22 +140,37 @@ each sheet earlier given later here = record {
 }
 
 -- ---- the whole sheet
-pub too_long_check : (sheet : List ℕ) → longest_sheet < length sheet → sheet_check sheet ≡ Checked.Refused 10
+pub too_long_check : (sheet : List ℕ) → longest_sheet < length sheet → sheet_check sheet ≡ Err Refusal.SheetTooLong
 too_long_check sheet h = picks_no _ _ _ (lt-leb (length sheet) longest_sheet h)
 
-pub sheet_answered : (sheet area : List ℕ) → SheetAnswered sheet area (area_after sheet area) (outcome sheet (length area))
+-- the area by the outcome's number: none of a refusal changes it, and an answer of so many bytes is written
+area_kept : (o : Result ℕ Refusal) (answered area : List ℕ) (number : ℕ) → with_number o ≡ Err number → area_for o answered area ≡ area
+area_kept (Ok size) answered area number e = cc
+area_kept (Err why) answered area number e = refl
+
+area_written : (o : Result ℕ Refusal) (answered area : List ℕ) (size : ℕ) → with_number o ≡ Ok size → area_for o answered area ≡ answered ++ drop size area
+area_written (Ok put) answered area size e = let same : put ≡ size = cc in ap (λ (k : ℕ). answered ++ drop k area) same
+area_written (Err why) answered area size e = cc
+
+abbrev numbered : Result ℕ Refusal → Result ℕ ℕ
+numbered o = with_number o
+
+pub sheet_answered : (sheet area : List ℕ) → SheetAnswered sheet area (area_after sheet area) (with_number (outcome sheet (length area)))
 sheet_answered sheet area = record {
-  too_long = λ h. refused_in_any_area sheet 10 (too_long_check sheet h) (length area);
-  faulty = λ h number e. refused_in_any_area sheet number (picks_yes _ _ _ (le-leb (length sheet) longest_sheet h) ∙ e) (length area);
-  too_short = too_short sheet (length area);
-  accepted = long_enough sheet (length area);
-  unchanged = refused_unchanged sheet area;
-  written = λ size e. ap (λ (o : Outcome). area_for o (sheet_answer sheet) area) e;
+  too_long = λ h. ap numbered (refused_in_any_area sheet Refusal.SheetTooLong (too_long_check sheet h) (length area));
+  faulty = λ h why e. ap numbered (refused_in_any_area sheet why (picks_yes _ _ _ (le-leb (length sheet) longest_sheet h) ∙ e) (length area));
+  too_short = λ e h. ap numbered (too_short sheet (length area) e h);
+  accepted = λ e h. ap numbered (long_enough sheet (length area) e h);
+  unchanged = area_kept (outcome sheet (length area)) (sheet_answer sheet) area;
+  written = area_written (outcome sheet (length area)) (sheet_answer sheet) area;
   each = each sheet;
 }
 
--- whatever has the outcome's record, and the area that the entry promises
-pub answered_by : (sheet before after : List ℕ) (o : Outcome) → outcome_record o ≡ outcome_record (outcome sheet (length before)) → after ≡ area_after sheet before → SheetAnswered sheet before after o
+-- whatever has the outcome's number, and the area that the entry promises
+pub answered_by : (sheet before after : List ℕ) (o : Result ℕ ℕ) → o ≡ with_number (outcome sheet (length before)) → after ≡ area_after sheet before → SheetAnswered sheet before after o
 answered_by sheet before after o e f =
     subst (λ (a : List ℕ). SheetAnswered sheet before a o) (sym f)
-    (subst (SheetAnswered sheet before (area_after sheet before)) (sym (outcome_determines o (outcome sheet (length before)) e)) (sheet_answered sheet before))
+    (subst (SheetAnswered sheet before (area_after sheet before)) (sym e) (sheet_answered sheet before))
+
+pub rightly : (sheet before after : List ℕ) (o : Result ℕ Refusal) → (o ≡ outcome sheet (length before)) × (after ≡ area_after sheet before) → SheetAnswered sheet before after (with_number o)
+rightly sheet before after o e = answered_by sheet before after (with_number o) (ap numbered e.0) e.1

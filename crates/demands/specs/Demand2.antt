@@ -1,11 +1,9 @@
 -- Demand 2: without a limit the one-sided verdict, with or without delay, equals the region formulas of the article's Figures 3 and 5 in whole numbers; the sixteen
 -- advisories have Table 1's sense, target, strength and delay; catalogue and reaction table list identical codes.
-use Rattle.std.specs.Prelude.{◌≡◌, ◌↔◌, ℕ, ◌*◌, ◌<◌, pos}
+use Rattle.std.specs.Prelude.{◌≡◌, ◌↔◌, ℕ, ◌*◌, ◌<◌, pos, Result, Some}
 use mathlib.Core.List.{map, Memᴰ}
-use Rattle.std.proofs.Math.Option.{some}
 use Rattle.advisory.specs.declared.Instruction.{Instruction}
 use Rattle.advisory.specs.declared.Reaction.{Reaction}
-use Rattle.advisory.specs.declared.Reacted.TheVariants.{Row}
 use Rattle.advisory.specs.Catalogue.{article_entries, Named, not_judged, Listed, CodeWithin}
 use Rattle.advisory.specs.ReactionTable.{reaction_table, row_at, rows_with}
 use Rattle.advisory.specs.Advised.{advised_of, instruction_in}
@@ -17,25 +15,26 @@ use Rattle.question.specs.declared.Settings.{Settings}
 use Rattle.question.specs.declared.Question.{Question}
 use Rattle.limits.specs.Limits.{no_limit}
 use Rattle.sensed.specs.Sensed.{sensed_question}
-use Rattle.judge.specs.declared.Answer.{Answer}
 use Rattle.judge.specs.Answers.{answer_record}
 use Rattle.region.specs.Formula.{Formula, Says}
 use Rattle.region.specs.Regions.{L_expl, D_expl}
 use Rattle.region.specs.JudgedRegion.{clear_record, advisory_region}
+use Rattle.question.specs.declared.refusal.Refusal.{Refusal}
+use Rattle.verdict.specs.declared.Verdict.{Verdict}
 
 -- the answer is "clear" exactly in a region
-abbrev pub ClearIn : Answer → Formula → Type 0
+abbrev pub ClearIn : Result Verdict Refusal → Formula → Type 0
 ClearIn answer region = (answer_record answer ≡ clear_record) ↔ Says region
 
 -- a one-sided question without a limit: Figure 5 with any delay, Figure 3 without one
-pub record Demand2 (x : Encounter) (y : Settings) (z : Question) (answer : Answer) : Type 0 where
+pub record Demand2 (x : Encounter) (y : Settings) (z : Question) (answer : Result Verdict Refusal) : Type 0 where
   pub figure_5 : z.limit ≡ no_limit → ClearIn answer (D_expl (sensed_question x y z))
   pub figure_3 : z.limit ≡ no_limit → z.delay ≡ pos 0 → ClearIn answer (L_expl (sensed_question x y z))
 
 -- a question by one of the sixteen codes without a limit: Figure 5 with the columns of the code's line in Table 1
-pub record CodeDemand2 (x : Encounter) (y : Settings) (code : ℕ) (answer : Answer) : Type 0 where
+pub record CodeDemand2 (x : Encounter) (y : Settings) (code : ℕ) (answer : Result Verdict Refusal) : Type 0 where
   pub line : Instruction
-  pub in_table_1 : printed_at code ≡ some line
+  pub in_table_1 : printed_at code ≡ Some line
   pub figure_5 : ClearIn answer (advisory_region x y line)
 
 -- ---- the tables
@@ -50,7 +49,7 @@ sixteen = codes.lists_1_to_16
 pub identical_codes : (code : ℕ) → code < 256 → Listed code ↔ (rows_with reaction_table code ≡ 1)
 identical_codes = tables.listed_has_one_row
 
-pub rows_are_listed : (place : ℕ) (row : Reaction) → row_at reaction_table place ≡ Row row → Listed row.code
+pub rows_are_listed : (place : ℕ) (row : Reaction) → row_at reaction_table place ≡ Some row → Listed row.code
 rows_are_listed = tables.row_is_listed
 
 -- the names are Table 1's, in its order, with the codes from 1 on; g/4 and g/3 are whole; "Codes 17 (COC) and 18 (MTLO) are named but not judged, and are in neither

@@ -1,15 +1,12 @@
 -- Demand 3: the verdict is "conflict" exactly if a rational conflict time exists (two-sided: on each side); each time shown is one and is the one that document
 -- 01's rule picks; "conflict time" is defined by the paths alone.
-use Rattle.std.specs.Prelude.{◌≡◌, Bool, true, false, ◌↔◌, ℕ, ◌*◌, ◌/◌, ◌≤◌, ◌<◌, pos, ◌+ℤ◌, ◌-ℤ◌, ◌*ℤ◌, nat_abs, ◌≤ℤ◌}
+use Rattle.std.specs.Prelude.{◌≡◌, Bool, true, false, ◌↔◌, ℕ, ◌*◌, ◌/◌, ◌≤◌, ◌<◌, pos, ◌+ℤ◌, ◌-ℤ◌, ◌*ℤ◌, nat_abs, ◌≤ℤ◌, None, Option, Some}
 use Rattle.std.specs.Int.{◌∣◌}
-use Rattle.instant.specs.declared.Moment.TheVariants.{At}
 use Rattle.instant.specs.declared.Time.{Time}
 use Rattle.instant.specs.Order.{◌÷◌, ◌≈◌}
 use Rattle.instant.specs.LowestTerms.{LowestTerms, SizedTime, whole_time}
 use Rattle.instant.specs.Lowest.{lowest}
 use Rattle.instant.proofs.LowestTerms as terms
-use Rattle.path.specs.declared.Limit.{Limit}
-use Rattle.path.specs.declared.Limit.TheVariants.{Unlimited, Upto}
 use Rattle.path.specs.declared.SensedQuestion.{SensedQuestion}
 use Rattle.path.specs.declared.Side.{Side}
 use Rattle.path.specs.declared.Side.TheVariants.{Lower, Upper}
@@ -21,9 +18,9 @@ use Rattle.verdict.specs.declared.Verdict.{Verdict}
 use Rattle.verdict.specs.declared.Verdict.TheVariants.{Clear, Conflict, Conflicts}
 
 -- "up to the limit if one is set"
-abbrev pub WithinLimit : Limit → ℕ → ℕ → Type 0
-WithinLimit Unlimited n m = Unit {0}
-WithinLimit (Upto limit) n m = n ≤ limit * m
+abbrev pub WithinLimit : Option ℕ → ℕ → ℕ → Type 0
+WithinLimit None n m = Unit {0}
+WithinLimit (Some limit) n m = n ≤ limit * m
 
 -- "not strictly beyond it vertically": w × h + k ≥ f(t), times 2 × a × m²; upper: w × h − k ≤ j(t), times 2 × b × m²
 abbrev pub NotStrictlyBeyond : Side → SensedQuestion → ℕ → ℕ → Type 0
@@ -57,7 +54,7 @@ pub record Shown (side : Side) (s : SensedQuestion) (t : Time) : Type 0 where
   pub n : ℕ
   pub m : ℕ
   pub conflict : ConflictAt side s n m
-  pub picked : Picks side s (At (n ÷ m))
+  pub picked : Picks side s (Some (n ÷ m))
   pub lowest : LowestTerms n m t
   pub small : SizedTime t
 

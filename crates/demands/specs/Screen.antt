@@ -1,5 +1,5 @@
 -- "The path on the screen" (document 02): what it asks of a drawing and of a screen point. x is an encounter, y the settings, z a question.
-use Rattle.std.specs.Prelude.{◌≡◌, cond, List, [], ◌∷◌, ◌++◌, ℕ, ◌+◌, ◌*◌, ◌≤◌, ◌<◌, eqb, length, take, ℤ, pos, ◌+ℤ◌, ◌-ℤ◌, ◌*ℤ◌, Float}
+use Rattle.std.specs.Prelude.{◌≡◌, cond, List, [], ◌∷◌, ◌++◌, ℕ, ◌+◌, ◌*◌, ◌≤◌, ◌<◌, eqb, length, take, ℤ, pos, ◌+ℤ◌, ◌-ℤ◌, ◌*ℤ◌, Float, Err, Ok, Result}
 use Rattle.integers.specs.Extremes.{max0}
 use Rattle.instant.specs.declared.Instant.{Instant}
 use Rattle.instant.specs.declared.Time.{Time}
@@ -11,21 +11,21 @@ use Rattle.path.specs.Paths.{u_d, lower_path}
 use Rattle.question.specs.declared.Encounter.{Encounter}
 use Rattle.question.specs.declared.Settings.{Settings}
 use Rattle.question.specs.declared.Question.{Question}
-use Rattle.question.specs.declared.Checked.TheVariants.{Accepted, Refused}
 use Rattle.question.specs.Refusals.{refusal}
 use Rattle.sensed.specs.Sensed.{sensed_question}
 use Rattle.pieces.specs.Pieces.{piece_at}
 use Rattle.screen.specs.declared.Piece.{Piece}
 use Rattle.screen.specs.declared.DrawnPiece.{DrawnPiece}
 use Rattle.screen.specs.declared.ScreenPoint.{ScreenPoint}
-use Rattle.screen.specs.declared.PointAnswer.{PointAnswer}
 use Rattle.screen.specs.Floats.{float, Exactly}
-use Rattle.screen.specs.Drawings.{float_piece, Content, refused, drawn}
+use Rattle.screen.specs.Drawings.{float_piece}
 use Rattle.screen.specs.Points.{evaluated}
 use Rattle.screen.specs.RightScreen.{ExactOnTheWay}
 use Rattle.binding.specs.declared.PieceResult.{PieceResult}
 use Rattle.binding.specs.declared.DrawingResult.{DrawingResult}
 use Rattle.binding.specs.declared.PointResult.{PointResult}
+use Rattle.question.specs.declared.refusal.Refusal.{Refusal}
+use Rattle.question.specs.RefusalNumbers.{refusal_number}
 
 -- a 64-bit float whose value is exactly the whole number z: z's own float, so that 0 is +0
 abbrev pub IsFloat : Float → ℤ → Type 0
@@ -96,9 +96,9 @@ pub record DrawsPath (s : SensedQuestion) (l : List DrawnPiece) : Type 0 where
   pub each : EachDraws s l
 
 -- "the other refusals are those of the entry for plain numbers"
-pub record RightlyDrawn (x : Encounter) (y : Settings) (z : Question) (c : Content) : Type 0 where
-  pub refused : (number : ℕ) → refusal x y z ≡ Refused number → c ≡ refused number
-  pub drawn : refusal x y z ≡ Accepted → (l : List DrawnPiece) × (c ≡ drawn l) × DrawsPath (sensed_question x y z) l
+pub record RightlyDrawn (x : Encounter) (y : Settings) (z : Question) (c : Result (List DrawnPiece) ℕ) : Type 0 where
+  pub refused : (why : Refusal) → refusal x y z ≡ Err why → c ≡ Err (refusal_number why)
+  pub drawn : refusal x y z ≡ Ok tt → (l : List DrawnPiece) × (c ≡ Ok l) × DrawsPath (sensed_question x y z) l
 
 -- "A screen point holds a time and a height as two 64-bit floats": the second, and 2 × a × f there; "since every operation on the way is exact"
 pub record OnPath (s : SensedQuestion) (t : ℕ) (p : ScreenPoint) : Type 0 where
@@ -107,10 +107,10 @@ pub record OnPath (s : SensedQuestion) (t : ℕ) (p : ScreenPoint) : Type 0 wher
   pub way : let held = piece_at s (t ÷ 1) in ExactOnTheWay held (float_piece held) (pos t) p.time
 
 -- "A second above 600 gets 6", after 1 to 5
-pub record RightlyPlaced (x : Encounter) (y : Settings) (z : Question) (t : ℕ) (r : PointAnswer) : Type 0 where
-  pub refused : (number : ℕ) → refusal x y z ≡ Refused number → r ≡ PointAnswer.Refused number
-  pub late : refusal x y z ≡ Accepted → 600 < t → r ≡ PointAnswer.Refused 6
-  pub drawn : refusal x y z ≡ Accepted → t ≤ 600 → (p : ScreenPoint) × (r ≡ PointAnswer.Drawn p) × OnPath (sensed_question x y z) t p
+pub record RightlyPlaced (x : Encounter) (y : Settings) (z : Question) (t : ℕ) (r : Result ScreenPoint ℕ) : Type 0 where
+  pub refused : (why : Refusal) → refusal x y z ≡ Err why → r ≡ Err (refusal_number why)
+  pub late : refusal x y z ≡ Ok tt → 600 < t → r ≡ Err 6
+  pub drawn : refusal x y z ≡ Ok tt → t ≤ 600 → (p : ScreenPoint) × (r ≡ Ok p) × OnPath (sensed_question x y z) t p
 
 -- the drawing and the point in the structs of numbers that C and Rust get
 abbrev pub time_in : PieceResult → Time
@@ -119,8 +119,8 @@ time_in f = record { seconds = f.seconds; remainder = f.remainder; divisor = f.d
 abbrev pub piece_in : PieceResult → DrawnPiece
 piece_in f = record { from = time_in f; piece = cond (eqb f.kind 2) (Piece.Arc f.square f.linear f.constant) (Piece.Straight f.linear f.constant) }
 
-abbrev pub content_in : DrawingResult → Content
-content_in f = cond (eqb f.refusal 0) (drawn (take f.pieces (piece_in f.first ∷ piece_in f.second ∷ piece_in f.third ∷ []))) (refused f.refusal)
+abbrev pub content_in : DrawingResult → Result (List DrawnPiece) ℕ
+content_in f = cond (eqb f.refusal 0) (Ok (take f.pieces (piece_in f.first ∷ piece_in f.second ∷ piece_in f.third ∷ []))) (Err f.refusal)
 
-abbrev pub point_in : PointResult → PointAnswer
-point_in f = cond (eqb f.refusal 0) (PointAnswer.Drawn (record { time = f.time; height = f.height })) (PointAnswer.Refused f.refusal)
+abbrev pub point_in : PointResult → Result ScreenPoint ℕ
+point_in f = cond (eqb f.refusal 0) (Ok (record { time = f.time; height = f.height })) (Err f.refusal)

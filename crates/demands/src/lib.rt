@@ -4,7 +4,7 @@
 
 ghost use Rattle.std.specs.Prelude.{take, pos, ◌-ℤ◌};
 ghost use Rattle.screen.specs.Drawings.{content};
-ghost use Rattle.binding.specs.PlainNumbers.{plain_encounter, plain_settings, plain_question, plain_advice};
+ghost use Rattle.question.specs.RefusalNumbers.{with_number};
 ghost use Rattle.demands.specs.PlainAnswer.{RightlyAnswered, RightlyExported};
 ghost use Rattle.demands.specs.Sheets.{SheetAnswered, outcome_in};
 ghost use Rattle.demands.specs.Program.{Written};
@@ -16,65 +16,42 @@ use binding::{
     DrawingResult, FlightResult, JudgeResult, PointResult, SheetResult, answer_sheet_bytes,
     judge_plain,
 };
-use candidate::{FlightAnswer, OneSidedAdvice, asked};
+use candidate::{Flown, OneSidedAdvice, asked};
 use conflict::positive_difference;
-use judge::{Answer, judge};
+use judge::judge;
 use program::{Output, program_output};
-use question::{Encounter, Question, Settings};
-use screen::{Drawing, PointAnswer};
-use sheet::{Outcome, answer_sheet};
+use question::{Encounter, Question, Refusal, Settings};
+use screen::{Drawing, ScreenPoint};
+use sheet::answer_sheet;
+use verdict::Verdict;
 
 // The entry for plain numbers.
-pub fn judge_demanded(encounter: Encounter, settings: Settings, question: Question) -> Answer
+#[tactic(auto, using(crate::proofs::PlainAnswers::rightly))]
+pub fn judge_demanded(
+    encounter: Encounter,
+    settings: Settings,
+    question: Question,
+) -> Result<Verdict, Refusal>
     ensures { RightlyAnswered encounter settings question result }
 {
     judge(encounter, settings, question)
 }
 
 // The same for C and Rust: the numbers are those of a right answer's record.
+#[tactic(auto, using(crate::proofs::Exported::rightly_exported))]
 pub fn judge_plain_demanded(
-    r: i64,
-    h: i64,
-    c: i64,
-    v: i64,
-    vi: i64,
-    p: i64,
-    k: i64,
-    e: i64,
-    sides: i64,
-    sense: i64,
-    target: i64,
-    upper_target: i64,
-    strength: i64,
-    upper_strength: i64,
-    delay: i64,
-    limit: i64,
+    encounter: Encounter,
+    settings: Settings,
+    question: Question,
 ) -> JudgeResult
-    ensures { RightlyExported (plain_encounter r h c v vi) (plain_settings p k e) (plain_question sides sense target upper_target strength upper_strength delay limit) result }
+    ensures { RightlyExported encounter settings question result }
 {
-    judge_plain(
-        r,
-        h,
-        c,
-        v,
-        vi,
-        p,
-        k,
-        e,
-        sides,
-        sense,
-        target,
-        upper_target,
-        strength,
-        upper_strength,
-        delay,
-        limit,
-    )
+    judge_plain(encounter, settings, question)
 }
 
 // The entry for sheets.
-pub fn answer_sheet_demanded(sheet: &[u8], area: &mut [u8]) -> Outcome
-    ensures { SheetAnswered sheet.now area.old area.new result }
+pub fn answer_sheet_demanded(sheet: &[u8], area: &mut [u8]) -> Result<usize, Refusal>
+    ensures { SheetAnswered sheet.now area.old area.new (with_number result) }
 {
     answer_sheet(sheet, area)
 }
@@ -87,6 +64,7 @@ pub fn answer_sheet_bytes_demanded(sheet: &[u8], area: &mut [u8]) -> SheetResult
 }
 
 // The program's own function.
+#[tactic(auto, using(crate::proofs::ProgramWrites::written_by))]
 pub fn program_output_demanded(sheet: &[u8]) -> Output
     ensures { Written sheet.now (take result.length result.area) }
 {
@@ -94,123 +72,71 @@ pub fn program_output_demanded(sheet: &[u8]) -> Output
 }
 
 // The path on the screen: the drawing, and the point of a second.
-pub fn drawing_demanded(encounter: Encounter, settings: Settings, question: Question) -> Drawing
-    ensures { RightlyDrawn encounter settings question (content result) }
+#[tactic(auto, using(crate::proofs::ScreenRight::rightly_drawn))]
+pub fn drawing_demanded(
+    encounter: Encounter,
+    settings: Settings,
+    question: Question,
+) -> Result<Drawing, Refusal>
+    ensures { RightlyDrawn encounter settings question (with_number (content result)) }
 {
     screen::screen_drawing(encounter, settings, question)
 }
 
+#[tactic(auto, using(crate::proofs::ScreenRight::rightly_placed))]
 pub fn point_demanded(
     encounter: Encounter,
     settings: Settings,
     question: Question,
     second: u64,
-) -> PointAnswer
-    ensures { RightlyPlaced encounter settings question second result }
+) -> Result<ScreenPoint, Refusal>
+    ensures { RightlyPlaced encounter settings question second (with_number result) }
 {
     screen::screen_point(encounter, settings, question, second)
 }
 
 // The same for C and Rust.
+#[tactic(auto, using(crate::proofs::ScreenExported::rightly_drawn))]
 pub fn exported_drawing_demanded(
-    r: i64,
-    h: i64,
-    c: i64,
-    v: i64,
-    vi: i64,
-    p: i64,
-    k: i64,
-    e: i64,
-    sides: i64,
-    sense: i64,
-    target: i64,
-    upper_target: i64,
-    strength: i64,
-    upper_strength: i64,
-    delay: i64,
-    limit: i64,
+    encounter: Encounter,
+    settings: Settings,
+    question: Question,
 ) -> DrawingResult
-    ensures { RightlyDrawn (plain_encounter r h c v vi) (plain_settings p k e) (plain_question sides sense target upper_target strength upper_strength delay limit) (content_in result) }
+    ensures { RightlyDrawn encounter settings question (content_in result) }
 {
-    binding::screen_drawing(
-        r,
-        h,
-        c,
-        v,
-        vi,
-        p,
-        k,
-        e,
-        sides,
-        sense,
-        target,
-        upper_target,
-        strength,
-        upper_strength,
-        delay,
-        limit,
-    )
+    binding::screen_drawing(encounter, settings, question)
 }
 
+#[tactic(auto, using(crate::proofs::ScreenExported::rightly_placed))]
 pub fn exported_point_demanded(
-    r: i64,
-    h: i64,
-    c: i64,
-    v: i64,
-    vi: i64,
-    p: i64,
-    k: i64,
-    e: i64,
-    sides: i64,
-    sense: i64,
-    target: i64,
-    upper_target: i64,
-    strength: i64,
-    upper_strength: i64,
-    delay: i64,
-    limit: i64,
+    encounter: Encounter,
+    settings: Settings,
+    question: Question,
     second: u64,
 ) -> PointResult
-    ensures { RightlyPlaced (plain_encounter r h c v vi) (plain_settings p k e) (plain_question sides sense target upper_target strength upper_strength delay limit) second (point_in result) }
+    ensures { RightlyPlaced encounter settings question second (point_in result) }
 {
-    binding::screen_point(
-        r,
-        h,
-        c,
-        v,
-        vi,
-        p,
-        k,
-        e,
-        sides,
-        sense,
-        target,
-        upper_target,
-        strength,
-        upper_strength,
-        delay,
-        limit,
-        second,
-    )
+    binding::screen_point(encounter, settings, question, second)
 }
 
 // "Larger of zero and a difference", the line of arithmetic under every verdict. No entry: the verdict and the drawing call it with q and u_d.
 pub fn positive_difference_demanded(q: i64, u: i64) -> u64
-    requires in_range { InRange q }
-    requires in_range_2 { InRange u }
+    requires q_in_range { InRange q }
+    requires u_in_range { InRange u }
     ensures { LargerOfZero (q -ℤ u) (pos result) }
 {
     positive_difference(q, u)
 }
 
 // The entry for a candidate's flight.
+#[tactic(auto, using(crate::proofs::FlightsRight::rightly))]
 pub fn flight_demanded(
     encounter: Encounter,
     settings: Settings,
     advice: OneSidedAdvice,
     flight: &[i64],
-) -> FlightAnswer
-    ensures { RightlyFlown encounter settings advice flight.now result }
+) -> Result<Flown, Refusal>
+    ensures { RightlyFlown encounter settings advice flight.now (with_number result) }
 {
     candidate::judge_flight(encounter, settings, advice, flight)
 }
@@ -218,10 +144,11 @@ pub fn flight_demanded(
 // The answers to a flight and to the question that its advice asks.
 #[derive(Clone, Copy)]
 pub struct BothAnswers {
-    pub judged: Answer,
-    pub flown: FlightAnswer,
+    pub judged: Result<Verdict, Refusal>,
+    pub flown: Result<Flown, Refusal>,
 }
 
+#[tactic(auto, using(crate::proofs::FlightsRight::kept_out))]
 pub fn flight_and_verdict_demanded(
     encounter: Encounter,
     settings: Settings,
@@ -233,32 +160,18 @@ pub fn flight_and_verdict_demanded(
     let question = asked(advice);
     let judged = judge(encounter, settings, question);
     let flown = candidate::judge_flight(encounter, settings, advice, flight);
-    BothAnswers {
-        judged: judged,
-        flown: flown,
-    }
+    BothAnswers { judged, flown }
 }
 
 // The same for C and Rust.
+#[tactic(auto, using(crate::proofs::FlightsRight::rightly_exported))]
 pub fn exported_flight_demanded(
-    r: i64,
-    h: i64,
-    c: i64,
-    v: i64,
-    vi: i64,
-    p: i64,
-    k: i64,
-    e: i64,
-    sense: i64,
-    target: i64,
-    strength: i64,
-    delay: i64,
-    limit: i64,
+    encounter: Encounter,
+    settings: Settings,
+    advice: OneSidedAdvice,
     flight: &[i64],
 ) -> FlightResult
-    ensures { RightlyFlown (plain_encounter r h c v vi) (plain_settings p k e) (plain_advice sense target strength delay limit) flight.now (flight_in result) }
+    ensures { RightlyFlown encounter settings advice flight.now (flight_in result) }
 {
-    binding::judge_flight(
-        r, h, c, v, vi, p, k, e, sense, target, strength, delay, limit, flight,
-    )
+    binding::judge_flight(encounter, settings, advice, flight)
 }

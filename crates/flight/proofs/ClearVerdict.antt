@@ -1,5 +1,6 @@
 -- "Prove that where the verdict is clear, no obeying flight is inside the puck at a rational time up to its end and the limit." For the verdict "conflict" nothing
 -- is promised of flights. Assumes nothing.
+use Rattle.std.specs.Prelude.{Ok}
 use mathlib.Core.Path.{◌≡◌}
 use mathlib.Core.Bool.{false}
 use mathlib.Core.List.{List}
@@ -11,7 +12,6 @@ use Rattle.path.specs.Letters.{k}
 use Rattle.question.specs.declared.Encounter.{Encounter}
 use Rattle.question.specs.declared.Settings.{Settings}
 use Rattle.question.specs.declared.Question.{Question}
-use Rattle.question.specs.declared.Checked.{Checked}
 use Rattle.question.specs.Refusals.{sense_of, two_sided, refusal}
 use Rattle.question.proofs.WithinLimits.{within_limits}
 use Rattle.sensed.specs.Sensed.{sensed_question}
@@ -24,7 +24,7 @@ use Rattle.flight.specs.Obeying.{Obeys}
 use Rattle.flight.specs.Inside.{NeverInside}
 use Rattle.flight.proofs.Safe.{never_inside}
 
-module _ (x : Encounter) (y : Settings) (z : Question) (accepted : refusal x y z ≡ Checked.Accepted) where
+module _ (x : Encounter) (y : Settings) (z : Question) (accepted : refusal x y z ≡ Ok tt) where
   -- what the test of a second asks for: the band from k below to k above the intruder is no line
   pub accepted_half_height : 1 ≤ k (sensed_question x y z)
   unfolding sensed_question

@@ -1,5 +1,6 @@
 -- For the verdict "conflict" nothing is promised of flights: of two flights that obey the advice of M5 (document 01: climb to 0 at 500, v −1,000, r 0, c 10,000,
 -- h −7,000), one is inside the puck and the other is not. A third obeys before and after a delay, each rule on its side. Assumes nothing.
+use Rattle.std.specs.Prelude.{None, Some}
 use mathlib.Core.List.{List, [], ◌∷◌}
 use Prim.Native.Nat.{ℕ}
 use native.Mathlib.Omega.{arith}
@@ -16,7 +17,6 @@ use Rattle.verdict.specs.Verdicts.{verdict}
 use Rattle.judge.specs.Demand3.{SaysConflict}
 use Rattle.judge.specs.Examples.{meet}
 use Rattle.flight.specs.declared.Stretch.{Stretch}
-use Rattle.flight.specs.declared.PuckEntry.TheVariants.{Never, During}
 use Rattle.flight.specs.SensedFlight.{sensed_flight}
 use Rattle.flight.specs.Obeying.{Obeys}
 use Rattle.flight.specs.Inside.{RightEntry}
@@ -48,7 +48,7 @@ m5_conflict = tt
 abbrev pub just : List Stretch
 just = stretch (pos 500) 2 ∷ stretch (pos 0) 5 ∷ []
 
-pub m5_inside : Obeys m5 (in_m5 just) × RightEntry m5 (in_m5 just) (During 2)
+pub m5_inside : Obeys m5 (in_m5 just) × RightEntry m5 (in_m5 just) (Some 2)
 unfolding sensed_question obeys_test first_inside
 m5_inside = ((obeys_decided m5 (in_m5 just)).yes tt, right_entry m5 (in_m5 just) (omega arith))
 
@@ -56,7 +56,7 @@ m5_inside = ((obeys_decided m5 (in_m5 just)).yes tt, right_entry m5 (in_m5 just)
 abbrev pub quick : List Stretch
 quick = stretch (pos 2000) 1 ∷ stretch (pos 0) 6 ∷ []
 
-pub m5_outside : Obeys m5 (in_m5 quick) × RightEntry m5 (in_m5 quick) Never
+pub m5_outside : Obeys m5 (in_m5 quick) × RightEntry m5 (in_m5 quick) None
 unfolding sensed_question obeys_test first_inside
 m5_outside = ((obeys_decided m5 (in_m5 quick)).yes tt, right_entry m5 (in_m5 quick) (omega arith))
 
@@ -67,6 +67,6 @@ m1 = sensed_question (meet (pos 300000) (pos 32249) (pos 10000) (pos 0)) startin
 abbrev slow : List Stretch
 slow = stretch (neg_ℤ (pos 966)) 5 ∷ stretch (pos 500) 13 ∷ stretch (pos 0) 20 ∷ []
 
-pub m1_delayed : Obeys m1 (sensed_flight (sense_of (asked (pos 1500) (pos 5))) slow) × RightEntry m1 (sensed_flight (sense_of (asked (pos 1500) (pos 5))) slow) Never
+pub m1_delayed : Obeys m1 (sensed_flight (sense_of (asked (pos 1500) (pos 5))) slow) × RightEntry m1 (sensed_flight (sense_of (asked (pos 1500) (pos 5))) slow) None
 unfolding sensed_question obeys_test first_inside
 m1_delayed = ((obeys_decided m1 (sensed_flight (sense_of (asked (pos 1500) (pos 5))) slow)).yes tt, right_entry m1 (sensed_flight (sense_of (asked (pos 1500) (pos 5))) slow) (omega arith))

@@ -1,5 +1,6 @@
 -- `first_inside` is right: the least whole second with a rational time inside the puck, or never where there is no such time up to the flight's end; and no
 -- other answer is right. Assumes nothing.
+use Rattle.std.specs.Prelude.{None, Option, Some}
 use mathlib.Core.Path.{◌≡◌, refl, ap, subst}
 use mathlib.Core.List.{List}
 use mathlib.Core.Logic.Iff
@@ -16,8 +17,6 @@ use Rattle.path.specs.Window.{distance_at}
 use Rattle.flight.specs.declared.Stretch.{Stretch}
 use Rattle.flight.specs.declared.Part.{Part}
 use Rattle.flight.specs.declared.Part.TheVariants.{Nowhere, FromTo, From}
-use Rattle.flight.specs.declared.PuckEntry.{PuckEntry}
-use Rattle.flight.specs.declared.PuckEntry.TheVariants.{Never, During}
 use Rattle.flight.specs.Flight.{duration, acceleration_at, stretch_height, speed_at}
 use Rattle.flight.specs.Inside.{height_apart, InsidePuck, InsideTime, InsideDuring, RightEntry}
 use Rattle.flight.specs.inner.Parts.{near_part, Tops, ReachesAt, Reaches, Crosses, band_from, band_to}
@@ -56,13 +55,13 @@ record Least (In : ℕ → Type 0) (n i : ℕ) : Type 0 where
   from : n ≤ i
   least : (j : ℕ) → n ≤ j → j < i → ¬ In j
 
-abbrev LeastOf : (ℕ → Type 0) → ℕ → ℕ → PuckEntry → Type 0
-LeastOf In f n Never = (j : ℕ) → n ≤ j → j < f + n → ¬ In j
-LeastOf In f n (During i) = Least In n i
+abbrev LeastOf : (ℕ → Type 0) → ℕ → ℕ → Option ℕ → Type 0
+LeastOf In f n None = (j : ℕ) → n ≤ j → j < f + n → ¬ In j
+LeastOf In f n (Some i) = Least In n i
 
-not_here : (In : ℕ → Type 0) (f n : ℕ) → ¬ In n → (r : PuckEntry) → LeastOf In f (suc n) r → LeastOf In (suc f) n r
-not_here In f n out Never h = λ (j : ℕ) (a : n ≤ j) (b : j < suc f + n) (i : In j). ⊎_elim (λ (c : suc n ≤ j). h j c (omega arith) i) (λ (c : j < suc n). out (subst In {x = j} {y = n} (omega arith) i)) (split≤ (suc n) j)
-not_here In f n out (During m) h = record {
+not_here : (In : ℕ → Type 0) (f n : ℕ) → ¬ In n → (r : Option ℕ) → LeastOf In f (suc n) r → LeastOf In (suc f) n r
+not_here In f n out None h = λ (j : ℕ) (a : n ≤ j) (b : j < suc f + n) (i : In j). ⊎_elim (λ (c : suc n ≤ j). h j c (omega arith) i) (λ (c : j < suc n). out (subst In {x = j} {y = n} (omega arith) i)) (split≤ (suc n) j)
+not_here In f n out (Some m) h = record {
   inside = h.inside;
   from = omega (arith, h.from);
   least = λ (j : ℕ) (a : n ≤ j) (b : j < m) (i : In j). ⊎_elim (λ (c : suc n ≤ j). h.least j c b i) (λ (c : j < suc n). out (subst In {x = j} {y = n} (omega arith) i)) (split≤ (suc n) j);
@@ -97,26 +96,26 @@ module _ (s : SensedQuestion) (l : List Stretch) (pk : 1 ≤ k s) where
   from_least (suc f) n h =
       let r = from_least f (suc n) (omega arith) in
       let i = second_inside n (omega arith) in
-      test_by (inside_second s l n) (During n) (inside_from s l f (suc n)) (LeastOf (InsideDuring s l) (suc f) n)
+      test_by (inside_second s l n) (Some n) (inside_from s l f (suc n)) (LeastOf (InsideDuring s l) (suc f) n)
       (λ t. record { inside = i.yes t; from = omega arith; least = λ (j : ℕ) (a : n ≤ j) (b : j < n). absurd (omega arith) })
       (λ t. not_here (InsideDuring s l) f n (λ x. T_not (inside_second s l n) t (i.is x)) (inside_from s l f (suc n)) r)
 
-  right : (r : PuckEntry) → LeastOf (InsideDuring s l) (suc (duration l)) 0 r → RightEntry s l r
-  right Never h = λ n m t. let x = some_second s l n m t in let flown = x.flown in h x.n (omega arith) (omega arith) x.during
-  right (During n) h = record { inside = h.inside; least = λ (j : ℕ) (b : j < n). h.least j (omega arith) b }
+  right : (r : Option ℕ) → LeastOf (InsideDuring s l) (suc (duration l)) 0 r → RightEntry s l r
+  right None h = λ n m t. let x = some_second s l n m t in let flown = x.flown in h x.n (omega arith) (omega arith) x.during
+  right (Some n) h = record { inside = h.inside; least = λ (j : ℕ) (b : j < n). h.least j (omega arith) b }
 
   pub right_entry : RightEntry s l (first_inside s l)
   unfolding first_inside
   right_entry = right (inside_from s l (suc (duration l)) 0) (from_least (suc (duration l)) 0 (omega arith))
 
 -- ---- one answer alone is right
-pub one_entry : (s : SensedQuestion) (l : List Stretch) (x y : PuckEntry) → RightEntry s l x → RightEntry s l y → x ≡ y
-one_entry s l Never Never h k = refl
-one_entry s l Never (During n) h k = absurd (h k.inside.i k.inside.m k.inside.time)
-one_entry s l (During n) Never h k = absurd (k h.inside.i h.inside.m h.inside.time)
-one_entry s l (During n) (During m) h k = ⊎_elim
+pub one_entry : (s : SensedQuestion) (l : List Stretch) (x y : Option ℕ) → RightEntry s l x → RightEntry s l y → x ≡ y
+one_entry s l None None h k = refl
+one_entry s l None (Some n) h k = absurd (h k.inside.i k.inside.m k.inside.time)
+one_entry s l (Some n) None h k = absurd (k h.inside.i h.inside.m h.inside.time)
+one_entry s l (Some n) (Some m) h k = ⊎_elim
     (λ (a : n ≤ m). ⊎_elim
-    (λ (b : m ≤ n). ap (λ (z : ℕ). During z) {x = n} {y = m} (omega arith))
+    (λ (b : m ≤ n). ap (λ (z : ℕ). Some z) {x = n} {y = m} (omega arith))
     (λ (b : n < m). absurd (k.least n b h.inside))
     (split≤ m n))
     (λ (a : m < n). absurd (h.least m a k.inside))

@@ -1,5 +1,6 @@
 -- What a program's walk over a flight needs, second by second: the speed and the height at the next whole second; what is known of both answers after n
 -- seconds, and after the next. Assumes nothing.
+use Rattle.std.specs.Prelude.{None, Some}
 use mathlib.Core.Path.{◌≡◌, refl, ap, ◌∙◌, subst}
 use mathlib.Core.Bool.{Bool, true, false, cond, ◌&&◌}
 use mathlib.Core.List.{List, [], ◌∷◌}
@@ -15,7 +16,6 @@ use Rattle.path.specs.Letters.{c, p, u, q, a, d, e}
 use Rattle.path.specs.Window.{distance_at}
 use Rattle.flight.specs.declared.Stretch.{Stretch}
 use Rattle.flight.specs.declared.Part.{Part}
-use Rattle.flight.specs.declared.PuckEntry.TheVariants.{Never, During}
 use Rattle.flight.specs.Flight.{duration, acceleration_at, speed_at, height_at}
 use Rattle.flight.specs.inner.Parts.{near_part, band_from, band_to}
 use Rattle.flight.specs.inner.Tests.{obeys_delayed, obeys_advice, second_obeys, first_obey, obeys_test, reaches, crosses, inside_at, inside_second, inside_from, first_inside}
@@ -78,24 +78,24 @@ module _ (s : SensedQuestion) (l : List Stretch) where
   unfolding first_inside
   all_left = ap (λ (f : ℕ). inside_from s l f 0) {x = suc (duration l)} {y = suc (duration l) - 0} (omega arith)
 
-  here : (f n : ℕ) → inside_second s l n ≡ true → inside_from s l (suc f) n ≡ During n
+  here : (f n : ℕ) → inside_second s l n ≡ true → inside_from s l (suc f) n ≡ Some n
   unfolding inside_from
-  here f n e = ap (λ (b : Bool). cond b (During n) (inside_from s l f (suc n))) e
+  here f n e = ap (λ (b : Bool). cond b (Some n) (inside_from s l f (suc n))) e
 
   not_here : (f n : ℕ) → inside_second s l n ≡ false → inside_from s l (suc f) n ≡ inside_from s l f (suc n)
   unfolding inside_from
-  not_here f n e = ap (λ (b : Bool). cond b (During n) (inside_from s l f (suc n))) e
+  not_here f n e = ap (λ (b : Bool). cond b (Some n) (inside_from s l f (suc n))) e
 
   one_more : (n : ℕ) → n ≤ duration l → suc (duration l) - n ≡ suc (suc (duration l) - suc n)
   one_more n h = omega arith
 
-  pub entered : (n : ℕ) → n ≤ duration l → LeftFrom n → inside_second s l n ≡ true → first_inside s l ≡ During n
+  pub entered : (n : ℕ) → n ≤ duration l → LeftFrom n → inside_second s l n ≡ true → first_inside s l ≡ Some n
   entered n h left e = left ∙ ap (λ (f : ℕ). inside_from s l f n) (one_more n h) ∙ here (suc (duration l) - suc n) n e
 
   pub left_on : (n : ℕ) → n ≤ duration l → LeftFrom n → inside_second s l n ≡ false → LeftFrom (suc n)
   left_on n h left e = left ∙ ap (λ (f : ℕ). inside_from s l f n) (one_more n h) ∙ not_here (suc (duration l) - suc n) n e
 
-  pub none_left : (n : ℕ) → duration l < n → LeftFrom n → first_inside s l ≡ Never
+  pub none_left : (n : ℕ) → duration l < n → LeftFrom n → first_inside s l ≡ None
   unfolding inside_from
   none_left n h left = left ∙ ap (λ (f : ℕ). inside_from s l f n) {x = suc (duration l) - n} {y = 0} (omega arith)
 

@@ -1,13 +1,11 @@
 -- Being inside the puck: "inside the puck, edges included, at a rational time up to its end, limit or not, and if so the least whole number of seconds n with
 -- such a time at n or later but before n + 1" (document 02). s is a sensed question, l a flight in its sense. Both heights are measured from the level that
 -- moves with the intruder, so their difference is that of the aircraft (`height_in_plain_numbers`).
-use Rattle.std.specs.Prelude.{List, ℕ, suc, ◌*◌, ◌≤◌, ◌<◌, ℤ, pos, ◌-ℤ◌, ◌*ℤ◌, nat_abs}
+use Rattle.std.specs.Prelude.{List, ℕ, suc, ◌*◌, ◌≤◌, ◌<◌, ℤ, pos, ◌-ℤ◌, ◌*ℤ◌, nat_abs, None, Option, Some}
 use Rattle.path.specs.declared.SensedQuestion.{SensedQuestion}
 use Rattle.path.specs.Letters.{p, k, wh, u}
 use Rattle.path.specs.Window.{InTime, distance_at}
 use Rattle.flight.specs.declared.Stretch.{Stretch}
-use Rattle.flight.specs.declared.PuckEntry.{PuckEntry}
-use Rattle.flight.specs.declared.PuckEntry.TheVariants.{Never, During}
 use Rattle.flight.specs.Flight.{duration, height_at}
 
 -- w × h less the flight's sensed height, at n/m, times 2 × m²
@@ -39,9 +37,9 @@ pub record FirstSecond (s : SensedQuestion) (l : List Stretch) (n : ℕ) : Type 
   pub least : (j : ℕ) → j < n → ¬ InsideDuring s l j
 
 -- what it is for an answer to be right: never inside, or first inside in the second from n to n + 1
-abbrev pub RightEntry : SensedQuestion → List Stretch → PuckEntry → Type 0
-RightEntry s l Never = (n m : ℕ) → ¬ InsideTime s l n m
-RightEntry s l (During n) = FirstSecond s l n
+abbrev pub RightEntry : SensedQuestion → List Stretch → Option ℕ → Type 0
+RightEntry s l None = (n m : ℕ) → ¬ InsideTime s l n m
+RightEntry s l (Some n) = FirstSecond s l n
 
 -- "no obeying flight is inside the puck at a rational time up to its end and the limit": what is to be proved of one
 abbrev pub NeverInside : SensedQuestion → List Stretch → Type 0

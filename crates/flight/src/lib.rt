@@ -8,13 +8,6 @@ pub struct Stretch {
     pub seconds: u64,
 }
 
-// When a flight is inside the puck: never, or first in the second that begins at n.
-#[derive(Clone, Copy)]
-pub enum PuckEntry {
-    Never,
-    During(u64),
-}
-
 // A part of a second, in fractions of it: none of it; from x/y to z/y; or from x/y up to its end, which is the next second's.
 #[derive(Clone, Copy)]
 pub enum Part {

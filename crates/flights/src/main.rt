@@ -4,30 +4,35 @@
 // implementation's. The program is proved safe. That it sees a difference is shown by the file `planted`, whose answers are wrong.
 #![tactic(auto)]
 
-ghost use Rattle.std.specs.Prelude.{◌≡◌, ◌+◌, ◌≤◌, length, take};
+ghost use Rattle.std.specs.Prelude.{◌≡◌, ◌+◌, ◌^◌, ◌<◌, ◌≤◌, length, IfSome};
+ghost use Rattle.flights.specs.declared.TheConstants.{FLIGHT_ROOM};
 
-use candidate::{FlightAnswer, OneSidedAdvice, judge_flight};
-use flight::PuckEntry;
-use question::{Encounter, Settings};
-use reading::{NAME_ROOM, argument, argument_count, open_named, read_full};
-use record::word_at;
-use std::io;
-use std::io::Read;
-use std::rt::{Env, Files};
-
-const LINE_END: u8 = 10;
+use candidate::{Flown, OneSidedAdvice, judge_flight};
+use cases::{encounter_in, report_arguments, settings_in};
+use question::Refusal;
+use std::fmt::Display;
+use std::{fmt, io};
 
 // Numbers of 8 bytes: the thirteen of encounter, puck, e and advice; how many numbers the flight has, and how many of them follow, the others being 0; the four of the
 // answer. Then the flight's numbers.
-const HEAD: usize = 152;
+const HEAD: usize = 19;
 
 // The most numbers that a flight may have here.
 const FLIGHT_ROOM: usize = 65536;
 
 const ROOM: usize = 131072;
 
-// An answer's numbers: the refusal, or 0 and then 1 if the flight obeys, 1 if it is inside, and the second; what is not used is 0.
+// A case's first numbers, how many its flight has, and those of the flight that follow.
 #[derive(Clone, Copy)]
+struct Case<'a> {
+    head: [u64; HEAD],
+    count: usize,
+    given: &'a [[u8; 8]],
+    ghost room: { count ≤ FLIGHT_ROOM },
+}
+
+// An answer's numbers: the refusal, or 0 and then 1 if the flight obeys, 1 if it is inside, and the second; what is not used is 0.
+#[derive(Clone, Copy, PartialEq, Eq, Default)]
 struct Numbers {
     refusal: u64,
     obeys: u64,
@@ -46,213 +51,107 @@ struct Report {
     never: u64,
     refused: u64,
     // Bytes of a case that was cut, or of what is none, or of a file longer than the room.
-    left_over: u64,
+    left_over: usize,
+    ghost within: { (different ≤ flights) × (obeying ≤ flights) × (not_obeying ≤ flights) × (inside ≤ flights) × (never ≤ flights) × (refused ≤ flights) },
 }
 
-// The eight bytes at a position, unsigned.
-fn natural_at(bytes: &[u8], at: usize) -> u64
-    requires { at + 8 ≤ length bytes.now }
+// The case at the start, and what follows it; none where there is no whole one.
+fn split_case(numbers: &[[u8; 8]]) -> Option<(Case<'_>, &[[u8; 8]])>
+    ensures { IfSome result (λ split. length split.1.now < length numbers.now) }
 {
-    let high = word_at(bytes, at);
-    let low = word_at(bytes, at + 4);
-    high * 4294967296 + low
+    let (head, rest) = numbers.split_first_chunk::<HEAD>()?;
+    let head = head.map(u64::from_be_bytes);
+    let count = head[13] as usize;
+    let given = head[14] as usize;
+    if FLIGHT_ROOM < count || count < given {
+        return None;
+    }
+    if rest.len() < given {
+        return None;
+    }
+    let (given, rest) = rest.split_at(given);
+    Some((Case { head, count, given }, rest))
 }
 
-// The eight bytes at a position, in two's complement.
-fn number_at(bytes: &[u8], at: usize) -> i64
-    requires { at + 8 ≤ length bytes.now }
-{
-    let n = natural_at(bytes, at);
-    if n < 9223372036854775808 {
-        return n as i64;
-    }
-    !((u64::MAX - n) as i64)
-}
-
-fn smaller(x: usize, y: usize) -> usize
-    ensures { (result ≤ x) × (result ≤ y) }
-{
-    if x <= y {
-        return x;
-    }
-    y
-}
-
-// The size of the case at the start of the bytes; 0 where there is no whole one.
-fn case_size(bytes: &[u8]) -> usize
-    ensures { result ≤ length bytes.now }
-{
-    if bytes.len() < HEAD {
-        return 0;
-    }
-    let count = natural_at(bytes, 104) as usize;
-    let given = natural_at(bytes, 112) as usize;
-    if count > FLIGHT_ROOM {
-        return 0;
-    }
-    if given > count {
-        return 0;
-    }
-    let size = HEAD + 8 * given;
-    if bytes.len() < size {
-        return 0;
-    }
-    size
-}
-
-// Puts a case's numbers at the start of the room.
-fn fill(room: &mut [i64], numbers: &[u8]) {
-    let given = smaller(numbers.len() / 8, room.len());
-    let mut i: usize = 0;
-    while i < given {
-        room[i] = number_at(numbers, i * 8);
-        i = i + 1;
-    }
-}
-
-fn encounter_in(case: &[u8]) -> Encounter
-    requires { 152 ≤ length case.now }
-{
-    Encounter {
-        distance: number_at(case, 0),
-        height: number_at(case, 8),
-        closing_speed: number_at(case, 16),
-        speed: number_at(case, 24),
-        intruder_speed: number_at(case, 32),
-    }
-}
-
-fn settings_in(case: &[u8]) -> Settings
-    requires { 152 ≤ length case.now }
-{
-    Settings {
-        radius: number_at(case, 40),
-        half_height: number_at(case, 48),
-        delay_acceleration: number_at(case, 56),
-    }
-}
-
-fn advice_in(case: &[u8]) -> OneSidedAdvice
-    requires { 152 ≤ length case.now }
-{
+fn advice_in(head: &[u64; HEAD]) -> OneSidedAdvice {
     OneSidedAdvice {
-        sense: number_at(case, 64),
-        target: number_at(case, 72),
-        strength: number_at(case, 80),
-        delay: number_at(case, 88),
-        limit: number_at(case, 96),
+        sense: head[8].cast_signed(),
+        target: head[9].cast_signed(),
+        strength: head[10].cast_signed(),
+        delay: head[11].cast_signed(),
+        limit: head[12].cast_signed(),
     }
 }
 
-fn flown_numbers(obeys: bool, entry: PuckEntry) -> Numbers {
-    match entry {
-        PuckEntry::Never => Numbers {
-            refusal: 0,
-            obeys: obeys as u64,
-            inside: 0,
-            second: 0,
-        },
-        PuckEntry::During(second) => Numbers {
-            refusal: 0,
-            obeys: obeys as u64,
-            inside: 1,
-            second: second,
-        },
+fn answer_to(case: Case<'_>) -> Result<Flown, Refusal> {
+    let mut room = [0i64; FLIGHT_ROOM];
+    for (number, bytes) in room.iter_mut().zip(case.given) {
+        *number = i64::from_be_bytes(*bytes);
     }
-}
-
-fn answer_numbers(answer: FlightAnswer) -> Numbers {
-    match answer {
-        FlightAnswer::Refused(number) => Numbers {
-            refusal: number as u64,
-            obeys: 0,
-            inside: 0,
-            second: 0,
-        },
-        FlightAnswer::Flown(obeys, entry) => flown_numbers(obeys, entry),
-    }
-}
-
-// How many of the room's numbers are the flight's.
-fn flight_length(case: &[u8], room: &[i64]) -> usize
-    requires { 152 ≤ length case.now }
-    ensures { (result ≤ length room.now) × (result ≡ length (take result room.now)) }
-{
-    smaller(natural_at(case, 104) as usize, room.len())
-}
-
-fn judged(case: &[u8], room: &[i64]) -> FlightAnswer
-    requires { 152 ≤ length case.now }
-{
-    let count = flight_length(case, room);
     judge_flight(
-        encounter_in(case),
-        settings_in(case),
-        advice_in(case),
-        &room[..count],
+        encounter_in(&case.head),
+        settings_in(&case.head),
+        advice_in(&case.head),
+        &room[..case.count],
     )
 }
 
-fn answer_to(case: &[u8]) -> FlightAnswer
-    requires { 152 ≤ length case.now }
-{
-    let mut room = [0i64; FLIGHT_ROOM];
-    fill(&mut room, &case[HEAD..]);
-    judged(case, &room)
-}
-
-fn same_answer(found: Numbers, case: &[u8]) -> bool
-    requires { 152 ≤ length case.now }
-{
-    let refusal = natural_at(case, 120);
-    let obeys = natural_at(case, 128);
-    let inside = natural_at(case, 136);
-    let second = natural_at(case, 144);
-    (found.refusal == refusal)
-        & (found.obeys == obeys)
-        & (found.inside == inside)
-        & (found.second == second)
-}
-
-// One more if it is so. A file has far fewer cases than would make a count start again.
-fn more_if(n: u64, so: bool) -> u64 {
-    if so {
-        return n.wrapping_add(1);
-    }
-    n
-}
-
-// Judges the flight of a case, and counts it.
-fn counted(report: Report, case: &[u8]) -> Report
-    requires { 152 ≤ length case.now }
-{
-    let found = answer_numbers(answer_to(case));
-    let flown = found.refusal == 0;
-    let obeys = found.obeys == 1;
-    let inside = found.inside == 1;
-    let same = same_answer(found, case);
-    Report {
-        flights: more_if(report.flights, true),
-        different: more_if(report.different, !same),
-        obeying: more_if(report.obeying, flown & obeys),
-        not_obeying: more_if(report.not_obeying, flown & !obeys),
-        inside: more_if(report.inside, flown & inside),
-        never: more_if(report.never, flown & !inside),
-        refused: more_if(report.refused, !flown),
-        left_over: report.left_over,
+fn answer_numbers(answer: Result<Flown, Refusal>) -> Numbers {
+    match answer {
+        Err(why) => Numbers {
+            refusal: u64::from(why.number()),
+            ..Numbers::default()
+        },
+        Ok(flown) => Numbers {
+            refusal: 0,
+            obeys: u64::from(flown.obeys),
+            inside: u64::from(flown.inside.is_some()),
+            second: flown.inside.unwrap_or(0),
+        },
     }
 }
 
-fn with_left_over(report: Report, bytes: usize) -> Report {
-    Report {
-        flights: report.flights,
-        different: report.different,
-        obeying: report.obeying,
-        not_obeying: report.not_obeying,
-        inside: report.inside,
-        never: report.never,
-        refused: report.refused,
-        left_over: bytes as u64,
+fn expected(head: &[u64; HEAD]) -> Numbers {
+    Numbers {
+        refusal: head[15],
+        obeys: head[16],
+        inside: head[17],
+        second: head[18],
+    }
+}
+
+impl Report {
+    // Judges the flight of a case, and counts it.
+    fn count(&mut self, case: Case<'_>)
+        requires { self.old.flights + 1 < 2 ^ 64 }
+        ensures { self.new.flights ≡ self.old.flights + 1 }
+    {
+        let found = answer_numbers(answer_to(case));
+        let flown = found.refusal == 0;
+        self.flights += 1;
+        self.different += u64::from(found != expected(&case.head));
+        self.obeying += u64::from(flown && found.obeys == 1);
+        self.not_obeying += u64::from(flown && found.obeys != 1);
+        self.inside += u64::from(flown && found.inside == 1);
+        self.never += u64::from(flown && found.inside != 1);
+        self.refused += u64::from(!flown);
+    }
+}
+
+impl Display for Report {
+    fn fmt<W: fmt::Write>(&self, f: &mut fmt::Formatter<W>) -> fmt::Result {
+        write!(
+            f,
+            "  flights {}, different {}; obeying {}, not {}; inside {}, never {}; refused {}; bytes left over {}",
+            self.flights,
+            self.different,
+            self.obeying,
+            self.not_obeying,
+            self.inside,
+            self.never,
+            self.refused,
+            self.left_over
+        )
     }
 }
 
@@ -268,81 +167,15 @@ fn report_on(bytes: &[u8]) -> Report {
         refused: 0,
         left_over: 0,
     };
-    let mut at: usize = 0;
-    let mut size = case_size(bytes);
-    while HEAD <= size {
-        report = counted(report, &bytes[at..at + size]);
-        at = at + size;
-        size = case_size(&bytes[at..]);
+    let (mut rest, odd) = bytes.as_chunks::<8>();
+    while let Some((case, after)) = split_case(rest) {
+        report.count(case);
+        rest = after;
     }
-    with_left_over(report, bytes.len() - at)
-}
-
-fn write(out: &impl Print, text: &str) -> io::Result<()> {
-    out.print(text)
-}
-
-fn write_number(out: &impl Print, text: &str, n: u64) -> io::Result<()> {
-    print!(out; "{text}{n}")
-}
-
-fn write_report(out: &impl Print, report: Report) -> io::Result<()> {
-    write_number(out, "  flights ", report.flights)?;
-    write_number(out, ", different ", report.different)?;
-    write_number(out, "; obeying ", report.obeying)?;
-    write_number(out, ", not ", report.not_obeying)?;
-    write_number(out, "; inside ", report.inside)?;
-    write_number(out, ", never ", report.never)?;
-    write_number(out, "; refused ", report.refused)?;
-    write_number(out, "; bytes left over ", report.left_over)?;
-    write(out, "\n")
-}
-
-// The first line's length, with its end.
-fn first_line(bytes: &[u8]) -> usize
-    ensures { (result ≤ length bytes.now) × (result ≡ length (take result bytes.now)) }
-{
-    let mut i: usize = 0;
-    while i < bytes.len() {
-        if bytes[i] == LINE_END {
-            return i + 1;
-        }
-        i = i + 1;
-    }
-    i
-}
-
-fn report_bytes(out: &impl Print, bytes: &[u8]) -> io::Result<()> {
-    let start = first_line(bytes);
-    out.write_all(&bytes[..start])?;
-    write_report(out, report_on(&bytes[start..]))
-}
-
-fn report_file<P: Print, R: Read>(out: &P, file: &mut R) -> io::Result<()> {
-    let mut room = [0u8; ROOM];
-    let length = read_full(file, &mut room)?;
-    report_bytes(out, &room[..length])
-}
-
-fn report_argument<R: Print + Files + Env>(rt: &R, k: usize) -> io::Result<()> {
-    let mut name = [0u8; NAME_ROOM];
-    let length = argument(rt, k, &mut name);
-    rt.write_all(&name[..length])?;
-    match open_named(rt, &name[..length]) {
-        Ok(mut file) => {
-            write(rt, ": ")?;
-            report_file(rt, &mut file)
-        }
-        Err(_) => write(rt, ": cannot be read\n"),
-    }
+    report.left_over = rest.len() * 8 + odd.len();
+    report
 }
 
 fn main(rt: HostRuntime) -> io::Result<()> {
-    let count = argument_count(&rt);
-    let mut k: usize = 1;
-    while k < count {
-        report_argument(&rt, k)?;
-        k = k + 1;
-    }
-    Ok(())
+    report_arguments(&rt, &mut rt.stdout(), &mut [0u8; ROOM], &report_on)
 }

@@ -1,4 +1,4 @@
-pub mod SensedStretches
-pub mod Seconds
-pub mod NextPlace
+pub mod LeftAt
 pub mod WithinLimits
+pub mod NextPlace
+pub mod PlacesLeft

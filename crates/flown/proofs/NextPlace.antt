@@ -1,115 +1,121 @@
--- The places of a walk over a flight: the first, the next within a stretch, the next after its last second, and the last. Assumes nothing.
-use mathlib.Core.Path.{◌≡◌, refl, sym, ap, ◌∙◌, subst}
-use mathlib.Core.List.{List}
-use mathlib.Core.Logic.{⊎_elim}
-use Prim.Native.Nat.{ℕ, suc, ◌+◌, ◌-◌, ◌≤◌, ◌<◌}
+-- The places of a walk over a flight: where a stretch begins, and a second later. Assumes nothing.
+use mathlib.Core.Path.{◌≡◌, sym, ap, ◌∙◌, subst}
+use mathlib.Core.Bool.{true, ◌&&◌}
+use mathlib.Core.List.{List, [], ◌∷◌}
+use Prim.Native.Nat.{ℕ, suc, ◌+◌, ◌-◌, ◌<◌}
 use native.Mathlib.Omega.{arith}
+use lib.Dec.{T}
+use lib.Ieee.Fits.{and_l, and_r}
 use lib.IntN.{ℤ, pos}
-use lib.ListN.{length, get_or, take}
-use lib.Seq.{take_all}
-use Rattle.integers.proofs.Laws.{split≤}
+use Rattle.std.proofs.Flags.{T_true}
+use Rattle.advisory.specs.declared.Sense.{Sense}
 use Rattle.path.specs.declared.SensedQuestion.{SensedQuestion}
 use Rattle.path.specs.Letters.{u}
 use Rattle.flight.specs.declared.Stretch.{Stretch}
-use Rattle.flight.specs.Flight.{duration, acceleration_at}
-use Rattle.flight.proofs.Walk.{first_speed, first_height}
-use Rattle.stretches.specs.inner.NoStretch.{no_stretch}
-use Rattle.stretches.proofs.Pairs.{past_the_last}
+use Rattle.flight.specs.Flight.{duration, acceleration_at, speed_at, height_at}
+use Rattle.flight.specs.FlightLimits.{stretch_within, stretches_within}
+use Rattle.flight.specs.HandedIn.{flight_of, numbers_within}
+use Rattle.flight.specs.SensedFlight.{sensed_stretch, sensed_flight}
+use Rattle.flight.proofs.FlightSizes.{stretch_sizes}
+use Rattle.flight.proofs.Walk.{first_speed, first_height, next_speed, next_height}
 use Rattle.second.specs.declared.Motion.{Motion}
 use Rattle.flown.specs.declared.Place.{Place}
-use Rattle.flown.specs.inner.Places.{motion_at, motion_after, PlaceAt}
-use Rattle.flown.proofs.SensedStretches.{duration_on, duration_part, acceleration_here}
-use Rattle.flown.proofs.Seconds.{same_motion, next_motion}
+use Rattle.flown.specs.inner.Places.{flown, motion_at, motion_after, LeftAt, BeginsAt, PlaceAt}
+use Rattle.flown.proofs.LeftAt.{stretch, all_left, stretch_over, at_end, force_at_end, force_now, a_second_less}
+use Rattle.flown.proofs.WithinLimits.{all_within}
 
--- the place at a second: `left` seconds before the end of the stretch i, with the motion m
-abbrev pub placed : ℕ → ℕ → ℕ → Motion → Place
-placed n i left m = record { second = n; stretch = i; left = left; motion = m }
+abbrev pub moving : ℤ → ℤ → ℤ → Motion
+moving y v g = record { height = y; speed = v; acceleration = g }
 
-same_place : {n n' i i' t t' : ℕ} {m m' : Motion} → n ≡ n' → i ≡ i' → t ≡ t' → m ≡ m' → placed n i t m ≡ placed n' i' t' m'
-same_place e f g h = cc
+pub same_motion : {y y' v v' g g' : ℤ} → y ≡ y' → v ≡ v' → g ≡ g' → moving y v g ≡ moving y' v' g'
+same_motion e f h = cc
 
--- the same place, its numbers written otherwise
-pub place_as : {s : SensedQuestion} {l : List Stretch} {n n' i i' t t' : ℕ} {m m' : Motion} → n ≡ n' → i ≡ i' → t ≡ t' → m ≡ m' → PlaceAt s l (placed n i t m) → PlaceAt s l (placed n' i' t' m')
-place_as {s} {l} e f g h at = subst (PlaceAt s l) (same_place e f g h) at
+module _ (s : SensedQuestion) (w : Sense) (l : List ℤ) where
+  -- ---- at the start
+  pub begins : numbers_within l ≡ true → BeginsAt s w l 0 (moving (pos 0) (u s) (pos 0)) l
+  begins e = record {
+    left = all_left (flown w l);
+    within = all_within l e;
+    height = sym (first_height (u s) (flown w l));
+    speed = sym (first_speed (u s) (flown w l));
+  }
 
-module _ (s : SensedQuestion) (l : List Stretch) where
-  abbrev stretch : ℕ → Stretch
-  stretch i = get_or l i no_stretch
+  -- ---- the stretch that begins at n, and those after it
+  pub record Begun (n : ℕ) (later : List ℤ) (x : Stretch) : Type 0 where
+    pub left : LeftAt (flown w l) n (x ∷ flown w later)
+    pub going : x.seconds ≡ 0 → flight_of later ≡ []
+    pub within : stretches_within (flight_of later) ≡ true
+    pub force : x.acceleration ≡ acceleration_at (flown w l) n 1
 
-  none_there : (i : ℕ) → length l ≤ i → (stretch i).seconds ≡ 0
-  none_there i h = ap (λ (x : Stretch). x.seconds) (past_the_last l i no_stretch h)
+  module _ {n : ℕ} {motion : Motion} {before later : List ℤ} (h : BeginsAt s w l n motion before) {y : Stretch} where
+    pub next_begun : {x : Stretch} → flight_of before ≡ x ∷ flight_of later → y ≡ sensed_stretch w x → Begun n later y
+    next_begun {x} e is = subst (Begun n later) (sym is) (record {
+      left = left;
+      going = λ z. absurd (omega (arith, lasting));
+      within = T_true _ (and_r (stretch_within x) (stretches_within (flight_of later)) both);
+      force = sym (force_now left lasting);
+    })
+      where
+        both : T (stretch_within x && stretches_within (flight_of later))
+        both = subst T (sym (sym (ap stretches_within e) ∙ h.within)) tt
 
-  -- the acceleration at a second of the stretch i
-  owned : (n i left : ℕ) → n + left ≡ duration (take (suc i) l) → left ≤ (stretch i).seconds → (i < length l → 0 < left) → acceleration_at l n 1 ≡ (stretch i).acceleration
-  owned n i left ahead begun going =
-      let on = duration_on l i in
-      ap (λ (t : ℕ). acceleration_at l t 1) {x = n} {y = duration (take i l) + ((stretch i).seconds - left)} (omega arith)
-      ∙ acceleration_here l i ((stretch i).seconds - left) (λ (h : i < length l). omega (arith, going h)) (λ (h : length l ≤ i). omega (arith, none_there i h))
+        lasting : 0 < x.seconds
+        lasting = (stretch_sizes x (and_l (stretch_within x) (stretches_within (flight_of later)) both)).shortest
 
-  -- every stretch lasts
-  module _ (lasting : (i : ℕ) → i < length l → 0 < (stretch i).seconds) where
-    pub first : PlaceAt s l (placed 0 0 (stretch 0).seconds (record { height = pos 0; speed = u s; acceleration = (stretch 0).acceleration }))
-    first =
-        let ahead : 0 + (stretch 0).seconds ≡ duration (take 1 l) = omega (arith, duration_on l 0) in
-        let begun : (stretch 0).seconds ≤ (stretch 0).seconds = omega arith in
-        record {
-          index = omega arith;
-          ahead = ahead;
-          begun = begun;
-          going = lasting 0;
-          motion = same_motion (sym (first_height (u s) l)) (sym (first_speed (u s) l)) (sym (owned 0 0 (stretch 0).seconds ahead begun (lasting 0)));
-          acceleration = refl;
-        }
+        left : LeftAt (flown w l) n (sensed_stretch w x ∷ flown w later)
+        left = subst (LeftAt (flown w l) n) (ap (sensed_flight w) e) h.left
 
-    module _ (place : Place) (at : PlaceAt s l place) where
-      -- the flight is not over while something is left of a stretch, and over where nothing is
-      pub flying : 0 < place.left → place.second < duration l
-      flying h = omega (arith, at.ahead, duration_part l (suc place.stretch))
+    pub none_begun : flight_of before ≡ [] → flight_of later ≡ [] → y ≡ stretch (pos 0) 0 → Begun n later y
+    none_begun e f is = subst (Begun n later) (sym is) (record {
+      left = subst (λ (r : List Stretch). LeftAt (flown w l) n (stretch (pos 0) 0 ∷ sensed_flight w r)) (sym f) (at_end ended);
+      going = λ z. f;
+      within = ap stretches_within f;
+      force = sym (force_at_end ended);
+    })
+      where
+        ended : LeftAt (flown w l) n []
+        ended = subst (LeftAt (flown w l) n) (ap (sensed_flight w) e) h.left
 
-      pub so_far : place.second ≤ duration l
-      so_far = omega (arith, at.ahead, duration_part l (suc place.stretch))
+  -- the same stretch, its acceleration written otherwise
+  pub written : {n : ℕ} {later : List ℤ} {x : Stretch} {g : ℤ} → g ≡ x.acceleration → Begun n later x → Begun n later (stretch g x.seconds)
+  written {n} {later} {x} e b = subst (λ (i : ℤ). Begun n later (stretch i x.seconds)) (sym e) b
 
-      pub ended : place.left ≡ 0 → place.second ≡ duration l
-      ended e = ⊎_elim
-          (λ (h : length l ≤ place.stretch). let all = ap duration (take_all (suc place.stretch) l (omega arith)) in omega (arith, at.ahead))
-          (λ (h : place.stretch < length l). absurd (omega (arith, at.going h)))
-          (split≤ (length l) place.stretch)
+  -- ---- a second later, with the motion m
+  module _ {place : Place} (at : PlaceAt s w l place) (more : 0 < place.left) {m : Motion} (is : m ≡ motion_after place.second.motion) where
+    abbrev n : ℕ
+    n = place.second.n
 
-      module _ (h : 0 < place.left) where
-        moved : (g : ℤ) → acceleration_at l (suc place.second) 1 ≡ g → motion_after place.motion g ≡ motion_at s l (suc place.second)
-        moved g e = ap (λ (m : Motion). motion_after m g) at.motion ∙ ap (motion_after (motion_at s l place.second)) (sym e) ∙ sym (next_motion s l place.second (flying h))
+    flying : n < duration (flown w l)
+    flying = omega (arith, at.left.time)
 
-        on_the_way : place.stretch < length l
-        on_the_way = ⊎_elim
-            (λ (k : length l ≤ place.stretch). absurd (omega (arith, at.begun, none_there place.stretch k)))
-            (λ (k : place.stretch < length l). k)
-            (split≤ (length l) place.stretch)
+    pub next_left : LeftAt (flown w l) (n + 1) (stretch m.acceleration (place.left - 1) ∷ flown w place.later.0.now)
+    next_left =
+        subst (λ (g : ℤ). LeftAt (flown w l) (n + 1) (stretch g (place.left - 1) ∷ flown w place.later.0.now)) (sym (ap (λ (i : Motion). i.acceleration) is))
+        (a_second_less at.left more)
 
-        -- within the stretch
-        pub next_within : 0 < place.left - 1 → PlaceAt s l (placed (suc place.second) place.stretch (place.left - 1) (motion_after place.motion place.motion.acceleration))
-        next_within more =
-            let ahead : suc place.second + (place.left - 1) ≡ duration (take (suc place.stretch) l) = omega (arith, at.ahead) in
-            let begun : place.left - 1 ≤ (stretch place.stretch).seconds = omega (arith, at.begun) in
-            record {
-              index = at.index;
-              ahead = ahead;
-              begun = begun;
-              going = λ k. more;
-              motion = moved place.motion.acceleration (owned (suc place.second) place.stretch (place.left - 1) ahead begun (λ k. more) ∙ sym at.acceleration);
-              acceleration = at.acceleration;
-            }
+    next_height_is : m.height ≡ height_at (u s) (flown w l) (n + 1) 1
+    next_height_is =
+        ap (λ (i : Motion). i.height) is
+        ∙ ap (λ (i : Motion). (motion_after i).height) at.motion
+        ∙ sym (next_height (u s) (flown w l) n flying)
+        ∙ ap (λ (i : ℕ). height_at (u s) (flown w l) i 1) {x = suc n} {y = n + 1} (omega arith)
 
-        -- after its last second
-        pub next_stretch : place.left - 1 ≡ 0 → let x = stretch (suc place.stretch) in PlaceAt s l (placed (suc place.second) (suc place.stretch) x.seconds (motion_after place.motion x.acceleration))
-        next_stretch last =
-            let x = stretch (suc place.stretch) in
-            let ahead : suc place.second + x.seconds ≡ duration (take (suc (suc place.stretch)) l) = omega (arith, at.ahead, duration_on l (suc place.stretch)) in
-            let begun : x.seconds ≤ x.seconds = omega arith in
-            record {
-              index = omega (arith, on_the_way);
-              ahead = ahead;
-              begun = begun;
-              going = lasting (suc place.stretch);
-              motion = moved x.acceleration (owned (suc place.second) (suc place.stretch) x.seconds ahead begun (lasting (suc place.stretch)));
-              acceleration = refl;
-            }
+    next_speed_is : m.speed ≡ speed_at (u s) (flown w l) (n + 1) 1
+    next_speed_is =
+        ap (λ (i : Motion). i.speed) is
+        ∙ ap (λ (i : Motion). (motion_after i).speed) at.motion
+        ∙ sym (next_speed (u s) (flown w l) n flying)
+        ∙ ap (λ (i : ℕ). speed_at (u s) (flown w l) i 1) {x = suc n} {y = n + 1} (omega arith)
+
+    -- within the stretch
+    pub next_motion : 0 < place.left - 1 → m ≡ motion_at s (flown w l) (n + 1)
+    next_motion still = same_motion next_height_is next_speed_is (sym (force_now next_left still))
+
+    -- after its last second
+    pub next_begins : place.left ≡ 1 → BeginsAt s w l (n + 1) m place.later.0.now
+    next_begins last = record {
+      left = stretch_over (subst (λ (t : ℕ). LeftAt (flown w l) (n + 1) (stretch m.acceleration t ∷ flown w place.later.0.now)) {x = place.left - 1} {y = 0} (omega arith) next_left);
+      within = at.within;
+      height = next_height_is;
+      speed = next_speed_is;
+    }

@@ -1,2 +1,3 @@
 -- Definitions that only inner contracts use; an instructor need not read them.
 pub mod Places
+pub mod LeftPlaces

@@ -2,137 +2,182 @@
 // each.
 #![tactic(auto)]
 
-ghost use Rattle.std.specs.Prelude.{◌≡◌, true, suc, ◌<◌, get_or};
-ghost use Rattle.path.specs.inner.Sizes.{Sizes};
+ghost use Rattle.std.specs.Prelude.{◌≡◌, true, ◌+◌, ◌<◌};
+ghost use Rattle.std.specs.Iterator.{YieldsFirstBy, item_count};
 ghost use Rattle.flight.specs.HandedIn.{flight_of, numbers_within};
-ghost use Rattle.flight.specs.SensedFlight.{sensed_flight};
+ghost use Rattle.flight.specs.FlightLimits.{stretch_within};
+ghost use Rattle.flight.specs.SensedFlight.{sensed_stretch, sensed_flight};
 ghost use Rattle.flight.specs.inner.Tests.{obeys_test, first_inside};
-ghost use Rattle.stretches.specs.inner.NoStretch.{no_stretch};
-ghost use Rattle.second.specs.inner.SecondSizes.{MotionSizes};
-ghost use Rattle.flown.specs.inner.Places.{motion_after, PlaceAt};
+ghost use Rattle.flown.specs.inner.Places.{motion_after, BeginsAt, PlaceAt, seen};
 
 use advisory::Sense;
-use flight::{PuckEntry, Stretch};
-use path::SensedQuestion;
-use second::{Motion, crosses_in_second, inside_at, obeys_in_second};
+use flight::Stretch;
+use path::SizedQuestion;
+use second::{Motion, Second, crosses_in_second, inside_at, obeys_in_second};
 use sensed::sign_of;
-use stretches::stretch_at;
+use stretches::Stretches;
 
-// A whole second of a flight: the stretch that owns it, by its index, the seconds left of that stretch, and the motion. At the flight's end none is left.
+// A flight within its limits, and the question of which it is judged.
 #[derive(Clone, Copy)]
-struct Place {
-    second: u64,
-    stretch: usize,
-    left: u64,
-    motion: Motion,
+pub struct Flight<'a> {
+    pub question: SizedQuestion,
+    pub sense: Sense,
+    pub numbers: &'a [i64],
+    pub ghost within: { numbers_within numbers.now ≡ true },
 }
 
-// The i-th stretch in the sense.
-fn sensed_stretch(w: Sense, flight: &[i64], i: usize) -> Stretch
-    requires { numbers_within flight.now ≡ true }
-    ensures { result ≡ get_or (sensed_flight w (flight_of flight.now)) i no_stretch }
+// A whole second of a flight, what is left of the stretch that owns it, and the stretches after that. At the flight's end nothing is left.
+#[derive(Clone, Copy)]
+struct Place<'a> {
+    second: Second,
+    left: u64,
+    later: Stretches<'a>,
+}
+
+// The stretch in the sense.
+fn sensed_stretch(sense: Sense, stretch: Stretch) -> Stretch
+    requires { stretch_within stretch ≡ true }
+    ensures { result ≡ sensed_stretch sense stretch }
 {
-    let stretch = stretch_at(flight, i);
-    let acceleration = stretch.acceleration;
-    let sign = sign_of(w);
     Stretch {
-        acceleration: sign * acceleration,
+        acceleration: sign_of(sense) * stretch.acceleration,
         seconds: stretch.seconds,
     }
 }
 
-// The motion a second later, from when on the acceleration may be another.
-fn motion_after(motion: Motion, acceleration: i64) -> Motion
-    requires { MotionSizes motion }
-    ensures { result ≡ motion_after motion acceleration }
+// The motion a second later, with the same acceleration.
+fn motion_after(second: Second) -> Motion
+    ensures { result ≡ motion_after second.motion }
 {
-    let height = motion.height;
-    let speed = motion.speed;
-    let change = motion.acceleration;
+    let now = second.motion;
     Motion {
-        height: height + 2 * speed + change,
-        speed: speed + change,
-        acceleration: acceleration,
+        height: now.height + 2 * now.speed + now.acceleration,
+        speed: now.speed + now.acceleration,
+        acceleration: now.acceleration,
     }
 }
 
-fn first_place(s: SensedQuestion, w: Sense, flight: &[i64]) -> Place
-    requires sizes { Sizes s }
-    requires flight_value { numbers_within flight.now ≡ true }
-    ensures { (result.second ≡ 0) × PlaceAt s (sensed_flight w (flight_of flight.now)) result }
-{
-    let first = sensed_stretch(w, flight, 0);
-    Place {
-        second: 0,
-        stretch: 0,
-        left: first.seconds,
-        motion: Motion {
-            height: 0,
-            speed: s.speed,
-            acceleration: first.acceleration,
-        },
-    }
-}
-
-fn next_place(s: SensedQuestion, w: Sense, flight: &[i64], place: Place) -> Place
-    requires sizes { Sizes s }
-    requires flight_value { numbers_within flight.now ≡ true }
-    requires place_at { PlaceAt s (sensed_flight w (flight_of flight.now)) place }
-    requires left_nonzero { 0 < place.left }
-    ensures { (result.second ≡ suc place.second) × PlaceAt s (sensed_flight w (flight_of flight.now)) result }
-{
-    let second = place.second + 1;
-    let stretch = place.stretch;
-    let left = place.left - 1;
-    let motion = place.motion;
-    if left == 0 {
-        let next = sensed_stretch(w, flight, stretch + 1);
-        return Place {
-            second: second,
-            stretch: stretch + 1,
-            left: next.seconds,
-            motion: motion_after(motion, next.acceleration),
+impl<'a> Flight<'a> {
+    // Where the first of the stretches that are left begins, or the flight's end, which has no acceleration.
+    fn begin(self, n: u64, motion: Motion, left: Stretches<'a>) -> Place<'a>
+        requires { BeginsAt self.question.sensed self.sense self.numbers.now n motion left.0.now }
+        ensures { (result.second.n ≡ n) × PlaceAt self.entry.question.sensed self.entry.sense self.entry.numbers.now result }
+    {
+        let mut later = left;
+        let stretch = match later.next() {
+            Some(stretch) => sensed_stretch(self.sense, stretch),
+            None => Stretch {
+                acceleration: 0,
+                seconds: 0,
+            },
         };
+        let motion = Motion {
+            acceleration: stretch.acceleration,
+            ..motion
+        };
+        Place {
+            second: Second { n, motion },
+            left: stretch.seconds,
+            later,
+        }
     }
-    Place {
-        second: second,
-        stretch: stretch,
-        left: left,
-        motion: motion_after(motion, motion.acceleration),
+
+    fn start(self) -> Place<'a>
+        ensures { (result.second.n ≡ 0) × PlaceAt self.entry.question.sensed self.entry.sense self.entry.numbers.now result }
+    {
+        let motion = Motion {
+            height: 0,
+            speed: self.question.sensed.speed,
+            acceleration: 0,
+        };
+        self.begin(0, motion, Stretches(self.numbers))
+    }
+
+    // A second later.
+    fn after(self, place: Place<'a>) -> Place<'a>
+        requires at { PlaceAt self.question.sensed self.sense self.numbers.now place }
+        requires going { 0 < place.left }
+        ensures { (result.second.n ≡ place.entry.second.n + 1) × PlaceAt self.entry.question.sensed self.entry.sense self.entry.numbers.now result }
+    {
+        let n = place.second.n + 1;
+        let motion = motion_after(place.second);
+        if place.left == 1 {
+            return self.begin(n, motion, place.later);
+        }
+        Place {
+            second: Second { n, motion },
+            left: place.left - 1,
+            later: place.later,
+        }
     }
 }
 
-// Does the flight obey? Each of its seconds must.
-pub fn flight_obeys(s: SensedQuestion, w: Sense, flight: &[i64]) -> bool
-    requires sizes { Sizes s }
-    requires flight_value { numbers_within flight.now ≡ true }
-    ensures { result ≡ obeys_test s (sensed_flight w (flight_of flight.now)) }
-{
-    let mut place = first_place(s, w, flight);
-    while 0 < place.left {
-        if !obeys_in_second(s, place.second, place.motion) {
-            return false;
+// The places of a flight that are left, a second apart; the last is the flight's end.
+#[derive(Drop)]
+struct Places<'a> {
+    flight: Flight<'a>,
+    place: Place<'a>,
+    ended: bool,
+    ghost at: { PlaceAt flight.question.sensed flight.sense flight.numbers.now place },
+}
+
+impl<'a> Iterator for Places<'a> {
+    type Item = Place<'a>;
+
+    ghost use Rattle.flown.specs.inner.LeftPlaces.{left_places};
+
+    ghost next_gives = { YieldsFirstBy seen left_places };
+
+    ghost remaining = { item_count left_places };
+
+    fn next(&mut self) -> Option<Place<'a>> {
+        if self.ended {
+            return None;
         }
-        place = next_place(s, w, flight, place);
+        let place = self.place;
+        if place.left == 0 {
+            self.ended = true;
+        } else {
+            self.place = self.flight.after(place);
+        }
+        Some(place)
     }
-    true
+}
+
+impl<'a> Flight<'a> {
+    ghost use Rattle.flown.specs.inner.Places.{flown};
+    ghost use Rattle.flown.specs.inner.LeftPlaces.{left_places, to_the_end};
+
+    fn places(self) -> Places<'a>
+        ensures { left_places result ≡ to_the_end self.entry.question.sensed (flown self.entry.sense self.entry.numbers.now) 0 }
+    {
+        Places {
+            flight: self,
+            place: self.start(),
+            ended: false,
+        }
+    }
+}
+
+// Does the flight obey? Each of its seconds must; its last instant is tested by neither rule.
+pub fn flight_obeys(flight: Flight<'_>) -> bool
+    ensures { result ≡ obeys_test flight.entry.question.sensed (sensed_flight flight.entry.sense (flight_of flight.entry.numbers.now)) }
+{
+    flight.places().all(|place| place.left == 0 || obeys_in_second(flight.question, place.second))
 }
 
 // The first second with a time inside the puck; of the flight's end the instant alone.
-pub fn first_inside(s: SensedQuestion, w: Sense, flight: &[i64]) -> PuckEntry
-    requires sizes { Sizes s }
-    requires flight_value { numbers_within flight.now ≡ true }
-    ensures { result ≡ first_inside s (sensed_flight w (flight_of flight.now)) }
+pub fn first_inside(flight: Flight<'_>) -> Option<u64>
+    ensures { result ≡ first_inside flight.entry.question.sensed (sensed_flight flight.entry.sense (flight_of flight.entry.numbers.now)) }
 {
-    let mut place = first_place(s, w, flight);
-    while 0 < place.left {
-        if crosses_in_second(s, place.second, place.motion) {
-            return PuckEntry::During(place.second);
-        }
-        place = next_place(s, w, flight, place);
-    }
-    if inside_at(s, place.second, place.motion) {
-        return PuckEntry::During(place.second);
-    }
-    PuckEntry::Never
+    flight
+        .places()
+        .find(|place| {
+            if place.left == 0 {
+                inside_at(flight.question, place.second)
+            } else {
+                crosses_in_second(flight.question, place.second)
+            }
+        })
+        .map(|place| place.second.n)
 }

@@ -7,18 +7,11 @@ ghost use Rattle.instant.specs.Order.{no_later, earlier};
 ghost use Rattle.instant.specs.inner.Sizes.{SizedInstant};
 ghost use Rattle.instant.specs.Lowest.{gcd, lowest};
 
-// The rational time n/m, in seconds; a time has m ≥ 1.
+// The rational time n/m, in seconds; a time has m ≥ 1. (No Ord: where m is 0 its laws fail, as 0/0 would equal every time; and no Eq: 1/2 and 2/4 are one time.)
 #[derive(Clone, Copy)]
 pub struct Instant {
     pub n: u64,
     pub m: u64,
-}
-
-// An instant, or none.
-#[derive(Clone, Copy)]
-pub enum Moment {
-    At(Instant),
-    Never,
 }
 
 // A time as it is shown: whole seconds, and remainder/divisor of a second in lowest terms.
@@ -45,21 +38,8 @@ pub fn earlier(a: Instant, b: Instant) -> Instant
     if no_later(a, b) { a } else { b }
 }
 
-// The greatest common divisor, by Euclid's algorithm.
-fn gcd(a: u64, b: u64) -> u64
-    ensures { result ≡ gcd a b }
-{
-    let mut x = a;
-    let mut y = b;
-    while y != 0 {
-        let rest = x % y;
-        x = y;
-        y = rest;
-    }
-    x
-}
-
-// The same in 32 bits, where a division costs half as much. A division by 1, most often the last step, is left out.
+// The greatest common divisor, by Euclid's algorithm in 32 bits, where a division costs half as much. A division by 1, most often the last step, is left out.
+#[tactic(auto, using(crate::proofs::Euclid::gcd_step))]
 fn short_gcd(a: u32, b: u32) -> u32
     ensures { result ≡ gcd a b }
 {
@@ -70,31 +50,26 @@ fn short_gcd(a: u32, b: u32) -> u32
         x = y;
         y = rest;
     }
-    if y == 1 {
-        return 1;
-    }
-    x
+    if y == 1 { 1 } else { x }
 }
 
-// In 32 bits where both numbers have no more.
+// By steps in 64 bits until both numbers have no more than 32.
+#[tactic(auto, using(crate::proofs::Euclid::gcd_step))]
 fn common_divisor(a: u64, b: u64) -> u64
     ensures { result ≡ gcd a b }
 {
-    if a <= 4294967295 {
-        if b <= 4294967295 {
-            return short_gcd(a as u32, b as u32) as u64;
-        }
+    match (u32::try_from(a), u32::try_from(b)) {
+        (Ok(short_a), Ok(short_b)) => u64::from(short_gcd(short_a, short_b)),
+        _ if b == 0 => a,
+        _ => common_divisor(b, a % b),
     }
-    gcd(a, b)
 }
 
 // How many factors of two a and b share; a 0 counts as 64 of them.
 fn shared_twos(a: u64, b: u64) -> u32
     ensures { result ≡ min (count_trailing_zeros 64 a) (count_trailing_zeros 64 b) }
 {
-    let in_a = u64::trailing_zeros(a);
-    let in_b = u64::trailing_zeros(b);
-    if in_a < in_b { in_a } else { in_b }
+    a.trailing_zeros().min(b.trailing_zeros())
 }
 
 // The time n/m in lowest terms; three zeros, which are no time, where m is 0.
@@ -115,15 +90,16 @@ pub fn lowest_terms(n: u64, m: u64) -> Time
     let numerator = left >> twos;
     let denominator = m >> twos;
     let common = common_divisor(denominator, numerator);
+    // Nothing is divided by 1: a division is slow.
     if common == 1 {
         return Time {
-            seconds: seconds,
+            seconds,
             remainder: numerator,
             divisor: denominator,
         };
     }
     Time {
-        seconds: seconds,
+        seconds,
         remainder: numerator / common,
         divisor: denominator / common,
     }

@@ -1,11 +1,10 @@
 -- Demand 3, for every accepted question: the answer is judged, and its verdict is right in the sense of specs/Demand3.antt, for one and for two sides. The only
 -- premise is that the ordered refusals give none. Assumes nothing.
+use Rattle.std.specs.Prelude.{None, Ok, Option, Result, Some, ⊤}
 use mathlib.Core.Path.{◌≡◌, refl, sym, ap, ◌∙◌, subst}
 use mathlib.Core.Bool.{Bool, true, false, cond}
 use mathlib.Core.Logic.{◌↔◌}
 use Rattle.instant.specs.declared.Instant.{Instant}
-use Rattle.instant.specs.declared.Moment.{Moment}
-use Rattle.instant.specs.declared.Moment.TheVariants.{At, Never}
 use Rattle.instant.proofs.LowestTerms.{lowest_is, lowest_sized}
 use Rattle.path.specs.declared.SensedQuestion.{SensedQuestion}
 use Rattle.path.specs.declared.Side.{Side}
@@ -18,11 +17,9 @@ use Rattle.shown.proofs.InstantsInReach.{picked_sized}
 use Rattle.question.specs.declared.Encounter.{Encounter}
 use Rattle.question.specs.declared.Settings.{Settings}
 use Rattle.question.specs.declared.Question.{Question}
-use Rattle.question.specs.declared.Checked.{Checked}
 use Rattle.verdict.specs.declared.ClearSides.{ClearSides}
 use Rattle.verdict.specs.declared.Verdict.{Verdict}
 use Rattle.verdict.specs.declared.Verdict.TheVariants.{Clear, Conflict, Conflicts}
-use Rattle.judge.specs.declared.Answer.{Answer}
 use Rattle.question.specs.Refusals.{two_sided, refusal}
 use Rattle.sensed.specs.Sensed.{sensed_question}
 use Rattle.verdict.specs.Verdicts.{time_of, one_sided_verdict, two_sided_verdict, verdict}
@@ -30,41 +27,42 @@ use Rattle.judge.specs.Answers.{checked_answer, answer, answer_record}
 use Rattle.judge.specs.Demand3.{ShownTime, RightOneSided, RightTwoSided, RightVerdict, RightAnswer, SaysConflict}
 use Rattle.judge.proofs.AnswerRecords.{record_determines}
 use Rattle.sensed.proofs.AcceptedSizes.{accepted_sizes, accepted_upper_sizes}
+use Rattle.question.specs.declared.refusal.Refusal.{Refusal}
 
 -- ---- one side: no conflict time, or a time shown
-abbrev RightSide : Side → SensedQuestion → Moment → Type 0
-RightSide side s Never = ¬ ConflictExists side s
-RightSide side s (At t) = ShownTime side s (time_of t)
+abbrev RightSide : Side → SensedQuestion → Option Instant → Type 0
+RightSide side s None = ¬ ConflictExists side s
+RightSide side s (Some t) = ShownTime side s (time_of t)
 
 right_side : (side : Side) (s : SensedQuestion) → Sized side s → RightSide side s (time_shown side s)
 right_side side s z = go (time_shown side s) refl
   where
-    go : (m : Moment) → time_shown side s ≡ m → RightSide side s m
-    go Never e = never_none side s z e
-    go (At t) e =
-        let picked = subst (λ (m : Moment). Rattle.shown.specs.TimeRule.Picks side s m) e (rule_picks side s z) in
+    go : (m : Option Instant) → time_shown side s ≡ m → RightSide side s m
+    go None e = never_none side s z e
+    go (Some t) e =
+        let picked = subst (λ (m : Option Instant). Rattle.shown.specs.TimeRule.Picks side s m) e (rule_picks side s z) in
         let conflict = shown_conflict side s z t e in
         record { instant = t; conflict = conflict; picked = picked; lowest = lowest_is t.n t.m conflict.divisor; small = lowest_sized t.n t.m (picked_sized side s z t picked) }
 
 exists : (side : Side) (s : SensedQuestion) (t : Instant) → ShownTime side s (time_of t) → ConflictExists side s
 exists side s t h = (h.instant, h.conflict)
 
-one_right : (s : SensedQuestion) (m : Moment) → RightSide Lower s m → RightOneSided s (one_sided_verdict m)
-one_right s Never h = h
-one_right s (At t) h = h
+one_right : (s : SensedQuestion) (m : Option Instant) → RightSide Lower s m → RightOneSided s (one_sided_verdict m)
+one_right s None h = h
+one_right s (Some t) h = h
 
-two_right : (s : SensedQuestion) (m n : Moment) → RightSide Lower s m → RightSide Upper s n → RightTwoSided s (two_sided_verdict m n)
-two_right s Never Never h k = (h, k)
-two_right s Never (At u) h k = (h, exists Upper s u k)
-two_right s (At t) Never h k = (exists Lower s t h, k)
-two_right s (At t) (At u) h k = (h, k)
+two_right : (s : SensedQuestion) (m n : Option Instant) → RightSide Lower s m → RightSide Upper s n → RightTwoSided s (two_sided_verdict m n)
+two_right s None None h k = (h, k)
+two_right s None (Some u) h k = (h, exists Upper s u k)
+two_right s (Some t) None h k = (exists Lower s t h, k)
+two_right s (Some t) (Some u) h k = (h, k)
 
 -- ---- the theorems
-module _ (x : Encounter) (y : Settings) (z : Question) (accepted : refusal x y z ≡ Checked.Accepted) where
+module _ (x : Encounter) (y : Settings) (z : Question) (accepted : refusal x y z ≡ Ok tt) where
   -- an accepted question is judged
-  pub judged : answer x y z ≡ Answer.Judged (verdict z (sensed_question x y z))
+  pub judged : answer x y z ≡ Ok (verdict z (sensed_question x y z))
   unfolding answer
-  judged = ap (λ (c : Checked). checked_answer c (verdict z (sensed_question x y z))) accepted
+  judged = ap (λ (c : Result ⊤ Refusal). checked_answer c (verdict z (sensed_question x y z))) accepted
 
   pub one_sided_lem : two_sided z ≡ false → RightOneSided (sensed_question x y z) (verdict z (sensed_question x y z))
   unfolding verdict
@@ -103,7 +101,7 @@ module _ (x : Encounter) (y : Settings) (z : Question) (accepted : refusal x y z
   two_sided_exactly e = two_iff (verdict z (sensed_question x y z)) (two_sided_lem e)
 
 -- ---- demand 3 of the entry's result: whatever has the record of the answer is a right answer
-pub demand_3 : (x : Encounter) (y : Settings) (z : Question) → refusal x y z ≡ Checked.Accepted → (r : Answer) → answer_record r ≡ answer_record (answer x y z) → RightAnswer z (sensed_question x y z) r
+pub demand_3 : (x : Encounter) (y : Settings) (z : Question) → refusal x y z ≡ Ok tt → (r : Result Verdict Refusal) → answer_record r ≡ answer_record (answer x y z) → RightAnswer z (sensed_question x y z) r
 demand_3 x y z accepted r e = subst (RightAnswer z (sensed_question x y z)) (sym (record_determines r (answer x y z) e ∙ judged x y z accepted)) (go (two_sided z) refl)
   where
     go : (b : Bool) → two_sided z ≡ b → RightVerdict b (sensed_question x y z) (verdict z (sensed_question x y z))

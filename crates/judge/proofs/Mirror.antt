@@ -1,5 +1,6 @@
 -- Turning the sense with all heights and speeds negated leaves the answer: the sensed question is the same one, so climb and descend are proved once, and
 -- M3 is M1. Assumes nothing.
+use Rattle.std.specs.Prelude.{Err, Ok}
 use mathlib.Core.Path.{◌≡◌, refl, sym, ap, ap₂, ◌∙◌, subst}
 use mathlib.Core.Bool.{Bool, true, false, cond, not, ◌&&◌, ◌||◌}
 use mathlib.Core.List.{List, [], ◌∷◌}
@@ -19,8 +20,6 @@ use Rattle.path.specs.declared.SensedQuestion.{SensedQuestion}
 use Rattle.question.specs.declared.Encounter.{Encounter}
 use Rattle.question.specs.declared.Settings.{Settings}
 use Rattle.question.specs.declared.Question.{Question}
-use Rattle.question.specs.declared.Checked.{Checked}
-use Rattle.judge.specs.declared.Answer.{Answer}
 use Rattle.limits.specs.Limits.{within, distance_within, max_height, height_within, closing_speed_within, max_speed, speed_within, target_within, no_limit}
 use Rattle.question.specs.Refusals.{is_number, sense_of, two_sided, targets_ordered, upper_zero, Check, first_refusal, plain_checks, refusal}
 use Rattle.sensed.specs.Sensed.{sensed_question}
@@ -122,15 +121,15 @@ or_mapped : (a b b' : Bool) → (T b → T b') → T (a || b) → T (a || b')
 or_mapped true b b' f t = tt
 or_mapped false b b' f t = f t
 
-accepts : (l : List Check) → AllPass l → first_refusal l ≡ Checked.Accepted
+accepts : (l : List Check) → AllPass l → first_refusal l ≡ Ok tt
 accepts [] a = refl
 accepts (c ∷ l) a = go c.passes a.0 (accepts l a.1)
   where
-    go : (b : Bool) → T b → first_refusal l ≡ Checked.Accepted → cond b (first_refusal l) (Checked.Refused c.number) ≡ Checked.Accepted
+    go : (b : Bool) → T b → first_refusal l ≡ Ok tt → cond b (first_refusal l) (Err c.refusal) ≡ Ok tt
     go true t h = h
     go false t h = absurd t
 
-module _ (x : Encounter) (y : Settings) (z : Question) (accepted : refusal x y z ≡ Checked.Accepted) where
+module _ (x : Encounter) (y : Settings) (z : Question) (accepted : refusal x y z ≡ Ok tt) where
   passed : AllPass (plain_checks x y z)
   unfolding refusal
   passed = all_pass (plain_checks x y z) accepted
@@ -161,7 +160,7 @@ module _ (x : Encounter) (y : Settings) (z : Question) (accepted : refusal x y z
       (λ h. and_i (is_number (pos 0) (neg_ℤ z.upper_target)) s (zero_mirror z.upper_target (and_l t s h)) (and_r t s h))
       passed.1.1.1.1.1.1.1.0
 
-  pub mirror_accepted : refusal (mirrored x) y (turned z) ≡ Checked.Accepted
+  pub mirror_accepted : refusal (mirrored x) y (turned z) ≡ Ok tt
   unfolding refusal
   mirror_accepted =
       let r = distance_within x.distance in
@@ -197,7 +196,7 @@ module _ (x : Encounter) (y : Settings) (z : Question) (accepted : refusal x y z
   -- the answer is the same
   pub mirror_answer : answer (mirrored x) y (turned z) ≡ answer x y z
   unfolding verdict
-  mirror_answer = judged (mirrored x) y (turned z) mirror_accepted ∙ ap (λ (s : SensedQuestion). Answer.Judged (verdict z s)) (same_sensed x y z turn) ∙ sym (judged x y z accepted)
+  mirror_answer = judged (mirrored x) y (turned z) mirror_accepted ∙ ap (λ (s : SensedQuestion). Ok (verdict z s)) (same_sensed x y z turn) ∙ sym (judged x y z accepted)
 
 -- ---- M3 is M1 mirrored
 abbrev m1 : Encounter

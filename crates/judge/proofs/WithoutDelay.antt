@@ -1,10 +1,10 @@
 -- The earlier answer, when two-sided questions had no delay: the earlier refusals, and the verdict from the time that the earlier upper path shows. With delay 0 the
 -- answer is the earlier one, and one-sided with any delay. Assumes nothing.
+use Rattle.std.specs.Prelude.{Option, Result}
 use mathlib.Core.Path.{◌≡◌, ap, ap₂, ◌∙◌, sym}
 use mathlib.Core.Bool.{Bool, false, cond}
 use lib.IntN.{ℤ, pos}
 use Rattle.integers.specs.Extremes.{max0}
-use Rattle.instant.specs.declared.Moment.{Moment}
 use Rattle.path.specs.declared.SensedQuestion.{SensedQuestion}
 use Rattle.path.specs.declared.Side.TheVariants.{Lower, Upper}
 use Rattle.shown.specs.TimeShown.{time_shown}
@@ -17,14 +17,15 @@ use Rattle.question.proofs.EarlierTimes.{earlier_refusal, refusal_without_delay,
 use Rattle.sensed.specs.Sensed.{sensed_question}
 use Rattle.verdict.specs.declared.Verdict.{Verdict}
 use Rattle.verdict.specs.Verdicts.{one_sided_verdict, two_sided_verdict, verdict_of, verdict}
-use Rattle.judge.specs.declared.Answer.{Answer}
 use Rattle.judge.specs.Answers.{checked_answer, answer}
+use Rattle.instant.specs.declared.Instant.{Instant}
+use Rattle.question.specs.declared.refusal.Refusal.{Refusal}
 
 unfoldable pub earlier_verdict : Question → SensedQuestion → Verdict
 unfolding time_shown earlier_shown
 earlier_verdict z s = verdict_of z (time_shown Lower s) (earlier_shown s)
 
-unfoldable pub earlier_answer : Encounter → Settings → Question → Answer
+unfoldable pub earlier_answer : Encounter → Settings → Question → Result Verdict Refusal
 unfolding earlier_refusal sensed_question earlier_verdict
 earlier_answer x y z = checked_answer (earlier_refusal x y z) (earlier_verdict z (sensed_question x y z))
 
@@ -37,7 +38,7 @@ module _ (x : Encounter) (y : Settings) (z : Question) where
   unfolding verdict earlier_verdict
   verdict_without_delay none =
       let s = sensed_question x y z in
-      ap (λ (upper : Moment). verdict_of z (time_shown Lower s) upper) (shown_without_delay s (no_delay_lem none))
+      ap (λ (upper : Option Instant). verdict_of z (time_shown Lower s) upper) (shown_without_delay s (no_delay_lem none))
 
   -- "With delay 0 all answers equal the earlier ones"
   pub answer_without_delay : z.delay ≡ pos 0 → answer x y z ≡ earlier_answer x y z

@@ -1,24 +1,24 @@
 -- The answer to a question of plain numbers, and document 01's number and values for each answer ("Answer records").
-use Rattle.std.specs.Prelude.{List, [], ◌∷◌, ◌++◌, ℕ}
+use Rattle.std.specs.Prelude.{List, [], ◌∷◌, ◌++◌, ℕ, Err, Ok, Result, ⊤}
 use Rattle.instant.specs.declared.Time.{Time}
 use Rattle.question.specs.declared.Encounter.{Encounter}
 use Rattle.question.specs.declared.Settings.{Settings}
 use Rattle.question.specs.declared.Question.{Question}
-use Rattle.question.specs.declared.Checked.{Checked}
 use Rattle.verdict.specs.declared.ClearSides.{ClearSides}
 use Rattle.verdict.specs.declared.Verdict.{Verdict}
 use Rattle.verdict.specs.declared.Verdict.TheVariants.{Clear, Conflict, Conflicts}
-use Rattle.judge.specs.declared.Answer.{Answer}
+use Rattle.question.specs.RefusalNumbers.{refusal_number}
 use Rattle.question.specs.Refusals.{refusal}
 use Rattle.sensed.specs.Sensed.{sensed_question}
 use Rattle.verdict.specs.Verdicts.{verdict}
+use Rattle.question.specs.declared.refusal.Refusal.{Refusal}
 
 -- refused, or else judged
-abbrev pub checked_answer : Checked → Verdict → Answer
-checked_answer Checked.Accepted v = Answer.Judged v
-checked_answer (Checked.Refused n) v = Answer.Refused n
+abbrev pub checked_answer : Result ⊤ Refusal → Verdict → Result Verdict Refusal
+checked_answer (Ok _) v = Ok v
+checked_answer (Err why) v = Err why
 
-unfoldable pub answer : Encounter → Settings → Question → Answer
+unfoldable pub answer : Encounter → Settings → Question → Result Verdict Refusal
 unfolding refusal sensed_question verdict
 answer x y z = checked_answer (refusal x y z) (verdict z (sensed_question x y z))
 
@@ -42,8 +42,8 @@ time_numbers t = t.seconds ∷ t.remainder ∷ t.divisor ∷ []
 
 -- "kind 65 clear, body 1 byte (1 lower side clear, 2 upper, 3 both; one-sided always 1); kind 66 one-sided conflict, whole seconds, remainder, divisor, 4
 -- unsigned bytes each; kind 67 two such times, lower first; kind 68 one byte, the refusal number"
-abbrev pub answer_record : Answer → AnswerRecord
-answer_record (Answer.Judged (Clear sides)) = answers 65 (sides_number sides ∷ [])
-answer_record (Answer.Judged (Conflict t)) = answers 66 (time_numbers t)
-answer_record (Answer.Judged (Conflicts t u)) = answers 67 (time_numbers t ++ time_numbers u)
-answer_record (Answer.Refused n) = answers 68 (n ∷ [])
+abbrev pub answer_record : Result Verdict Refusal → AnswerRecord
+answer_record (Ok (Clear sides)) = answers 65 (sides_number sides ∷ [])
+answer_record (Ok (Conflict t)) = answers 66 (time_numbers t)
+answer_record (Ok (Conflicts t u)) = answers 67 (time_numbers t ++ time_numbers u)
+answer_record (Err why) = answers 68 (refusal_number why ∷ [])

@@ -1,7 +1,6 @@
 -- Demand 3: what it is for an answer to be right. Conflict times are those of the paths (`path`, specs/Conflict.antt).
-use Rattle.std.specs.Prelude.{Bool, true, false}
+use Rattle.std.specs.Prelude.{Bool, true, false, Err, Ok, Result, Some}
 use Rattle.instant.specs.declared.Instant.{Instant}
-use Rattle.instant.specs.declared.Moment.TheVariants.{At}
 use Rattle.instant.specs.declared.Time.{Time}
 use Rattle.instant.specs.LowestTerms.{LowestTerms, SizedTime}
 use Rattle.path.specs.declared.SensedQuestion.{SensedQuestion}
@@ -13,15 +12,15 @@ use Rattle.question.specs.declared.Question.{Question}
 use Rattle.verdict.specs.declared.ClearSides.{ClearSides}
 use Rattle.verdict.specs.declared.Verdict.{Verdict}
 use Rattle.verdict.specs.declared.Verdict.TheVariants.{Clear, Conflict, Conflicts}
-use Rattle.judge.specs.declared.Answer.{Answer}
 use Rattle.question.specs.Refusals.{two_sided}
+use Rattle.question.specs.declared.refusal.Refusal.{Refusal}
 
 -- A time shown on a side: it is a conflict time there, and so in the window; it is the one that the time rule picks; it stands in lowest terms, and its
 -- three numbers are below 2³².
 pub record ShownTime (side : Side) (s : SensedQuestion) (t : Time) : Type 0 where
   pub instant : Instant
   pub conflict : ConflictTime side s instant
-  pub picked : Picks side s (At instant)
+  pub picked : Picks side s (Some instant)
   pub lowest : LowestTerms instant.n instant.m t
   pub small : SizedTime t
 
@@ -47,9 +46,9 @@ RightVerdict false s v = RightOneSided s v
 RightVerdict true s v = RightTwoSided s v
 
 -- an accepted question is judged, and the verdict is right
-abbrev pub RightAnswer : Question → SensedQuestion → Answer → Type 0
-RightAnswer z s (Answer.Judged v) = RightVerdict (two_sided z) s v
-RightAnswer z s (Answer.Refused n) = ⊥
+abbrev pub RightAnswer : Question → SensedQuestion → Result Verdict Refusal → Type 0
+RightAnswer z s (Ok v) = RightVerdict (two_sided z) s v
+RightAnswer z s (Err n) = ⊥
 
 -- the verdict is "conflict"
 abbrev pub SaysConflict : Verdict → Type 0

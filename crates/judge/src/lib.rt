@@ -4,15 +4,9 @@
 ghost use Rattle.std.specs.Prelude.{◌≡◌};
 ghost use Rattle.judge.specs.Answers.{answer, sides_number, answer_record};
 
-use question::{Checked, Encounter, Question, Settings};
-use refusals::check_question;
+use question::{Encounter, Question, Refusal, Settings};
+use refusals::accept;
 use verdict::{ClearSides, Verdict, verdict_on};
-
-#[derive(Clone, Copy)]
-pub enum Answer {
-    Judged(Verdict),
-    Refused(u8),
-}
 
 // "1 lower side clear, 2 upper, 3 both"
 pub fn sides_number(sides: ClearSides) -> u8
@@ -27,11 +21,13 @@ pub fn sides_number(sides: ClearSides) -> u8
 
 // The entry for plain numbers: any 64-bit values.
 #[tactic(auto, unfolding(crate::specs::Answers::answer))]
-pub fn judge(encounter: Encounter, settings: Settings, question: Question) -> Answer
-    ensures { answer_record result ≡ answer_record (answer encounter settings question) }
+pub fn judge(
+    encounter: Encounter,
+    settings: Settings,
+    question: Question,
+) -> Result<Verdict, Refusal>
+    ensures { result ≡ answer encounter settings question }
 {
-    match check_question(encounter, settings, question) {
-        Checked::Accepted => Answer::Judged(verdict_on(encounter, settings, question)),
-        Checked::Refused(number) => Answer::Refused(number),
-    }
+    let asked = accept(encounter, settings, question)?;
+    Ok(verdict_on(asked))
 }

@@ -17,9 +17,7 @@ fn answer_input<R: Read, W: Write>(input: &mut R, output: &mut W) -> io::Result<
     let mut sheet = read_room();
     let read = read_full(input, &mut sheet)?;
     let answer = program_output(&sheet[..read]);
-    let area = answer.area;
-    let length = answer.length;
-    output.write_all(&area[..length])
+    output.write_all(&answer.area[..answer.length])
 }
 
 fn main(rt: HostRuntime) -> io::Result<()> {

@@ -2,6 +2,9 @@
 // `refusals`, are proved against it.
 #![tactic(auto)]
 
+ghost use Rattle.std.specs.Prelude.{◌≡◌};
+ghost use Rattle.limits.specs.Limits.{within};
+
 // r, distance ahead
 pub const MAX_DISTANCE: i64 = 12000000;
 
@@ -57,3 +60,11 @@ pub const MIN_FLIGHT_ACCELERATION: i64 = -MAX_FLIGHT_ACCELERATION;
 pub const MIN_STRETCH_SECONDS: u64 = 1;
 
 pub const MAX_FLIGHT_SECONDS: u64 = 600;
+
+// Is x from one limit to the other, both included?
+#[inline(always)]
+pub fn within(low: i64, high: i64, x: i64) -> bool
+    ensures { result ≡ within low high x }
+{
+    (low..=high).contains(&x)
+}

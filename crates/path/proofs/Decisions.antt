@@ -1,4 +1,5 @@
 -- The tests decide the propositions: in the window, in conflict. Assumes nothing.
+use Rattle.std.specs.Prelude.{None, Option, Some}
 use mathlib.Core.Bool.{Bool}
 use mathlib.Core.Logic.{◌↔◌}
 use Prim.Native.Nat.{ℕ, ◌*◌}
@@ -6,8 +7,6 @@ use lib.Dec.{T, leb, leb→le, le→leb}
 use lib.Ieee.Fits.{and_i, and_l, and_r}
 use lib.IntN.{nat_abs}
 use lib.Signed.{le_z_yes}
-use Rattle.path.specs.declared.Limit.{Limit}
-use Rattle.path.specs.declared.Limit.TheVariants.{Unlimited, Upto}
 use Rattle.path.specs.declared.SensedQuestion.{SensedQuestion}
 use Rattle.path.specs.declared.Side.{Side}
 use Rattle.path.specs.declared.Side.TheVariants.{Lower, Upper}
@@ -15,9 +14,9 @@ use Rattle.path.specs.Window.{InTime, distance_at, Window}
 use Rattle.path.specs.inner.Tests.{in_time, in_window, not_beyond, in_conflict}
 use Rattle.path.specs.Conflict.{NotBeyond, Conflict}
 
-pub intime_decided : (l : Limit) (n m : ℕ) → T (in_time l n m) ↔ InTime l n m
-intime_decided Unlimited n m = (λ t. t, λ h. h)
-intime_decided (Upto L) n m = (leb→le n (L * m), le→leb n (L * m))
+pub intime_decided : (l : Option ℕ) (n m : ℕ) → T (in_time l n m) ↔ InTime l n m
+intime_decided None n m = (λ t. t, λ h. h)
+intime_decided (Some L) n m = (leb→le n (L * m), le→leb n (L * m))
 
 pub not_beyond_decided : (side : Side) (s : SensedQuestion) (n m : ℕ) → T (not_beyond side s n m) ↔ NotBeyond side s n m
 unfolding not_beyond

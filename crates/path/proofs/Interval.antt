@@ -1,4 +1,6 @@
 -- Instants over one denominator, and what lies between two of them. Assumes nothing.
+use Rattle.std.specs.Prelude.{Option}
+use Rattle.std.specs.Option.{option_to_list}
 use mathlib.Core.Path.{◌≡◌, refl, sym, ap}
 use mathlib.Core.List.{List, [], ◌∷◌}
 use mathlib.Core.Logic.{inl, inr}
@@ -6,14 +8,13 @@ use Prim.Native.Nat.{ℕ, zero, suc, ◌*◌, ◌<◌, ◌≤◌}
 use native.Mathlib.Nat.{mul-le-mul_right, le_of_mul-le-mul_right, mul-pos}
 use native.Mathlib.Omega.{arith}
 use Rattle.instant.specs.declared.Instant.{Instant}
-use Rattle.instant.specs.declared.Moment.{Moment}
 use Rattle.instant.specs.Order.{◌÷◌, ◌≼◌}
-use Rattle.path.specs.Instants.{Among, as_list}
+use Rattle.path.specs.Instants.{Among}
 
 -- n/m is no earlier than `first` and, where there is a `last`, no later than it
-pub record Between (first : Instant) (last : Moment) (n m : ℕ) : Type 0 where
+pub record Between (first : Instant) (last : Option Instant) (n m : ℕ) : Type 0 where
   pub after : first ≼ n ÷ m
-  pub before : (t : Instant) → Among t (as_list last) → n ÷ m ≼ t
+  pub before : (t : Instant) → Among t (option_to_list last) → n ÷ m ≼ t
 
 -- ---- a denominator for all the instants of a list: the product of theirs
 pub denominator : List Instant → ℕ

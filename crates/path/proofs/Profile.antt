@@ -1,6 +1,8 @@
 -- One theorem for every side: a conflict somewhere in the window is a conflict at an instant of the list, unless the window has no end and the path
 -- sinks for ever. A profile is a height that is in conflict at an edge and below it; the upper side is turned over. The given time and the listed instants
 -- are brought over one denominator, where the path is a list of pieces. Assumes nothing.
+use Rattle.std.specs.Prelude.{None, Option, Some}
+use Rattle.std.specs.Option.{option_to_list}
 use mathlib.Core.Path.{◌≡◌, refl, sym, ap, subst}
 use mathlib.Core.List.{List, [], ◌∷◌, ◌++◌}
 use mathlib.Core.Logic.{inl, inr}
@@ -13,10 +15,8 @@ use Rattle.integers.proofs.Quotation.{quote}
 use Rattle.integers.proofs.Certificates.{by≤, div≤, gap≤, ◌⊠◌, 0≤pos, pos<}
 use Rattle.integers.proofs.Laws.{≤ℤ_trans}
 use Rattle.instant.specs.declared.Instant.{Instant}
-use Rattle.instant.specs.declared.Moment.{Moment}
-use Rattle.instant.specs.declared.Moment.TheVariants.{At, Never}
 use Rattle.instant.specs.Order.{◌÷◌, ◌≼◌}
-use Rattle.path.specs.Instants.{Among, as_list}
+use Rattle.path.specs.Instants.{Among}
 use Rattle.path.proofs.Membership.{among_left, among_right, among_one}
 use Rattle.path.proofs.Pieces.{Pieces, EndsInHill, least_closed, least_open}
 use Rattle.path.proofs.Interval.{Between, denominator, denominator_positive, Multiple, denominator_multiple, Over, over_multiple, Place, over_le, over_ge, le_over, ge_over}
@@ -32,7 +32,7 @@ pub record Profile : Type 1 where
   -- the window: what lies between `first` and `last`, if any time is in it
   pub In : ℕ → ℕ → Type 0
   pub first : Instant
-  pub last : Moment
+  pub last : Option Instant
   pub in_between : (n m : ℕ) → 0 < m → In n m → Between first last n m
   pub between_in : (n m x y : ℕ) → 0 < m → In n m → Between first last x y → In x y
   -- the height, and the edge at which a conflict begins; both on a scale of m*m
@@ -44,7 +44,7 @@ pub record Profile : Type 1 where
   pub mids : List Instant
   pub sinks : Type 0
   pub shape : (M : ℕ) → 0 < M → ((t : Instant) → Among t mids → Multiple M t) → Shape height mids sinks M
-  pub divisor : (t : Instant) → Among t (first ∷ (mids ++ as_list last)) → 0 < t.m
+  pub divisor : (t : Instant) → Among t (first ∷ (mids ++ option_to_list last)) → 0 < t.m
 
 -- in the window, and at the edge or below it
 pub record Low (P : Profile) (n m : ℕ) : Type 0 where
@@ -53,7 +53,7 @@ pub record Low (P : Profile) (n m : ℕ) : Type 0 where
 
 -- all that the time rule tries
 abbrev pub tried : Profile → List Instant
-tried P = P.first ∷ (P.mids ++ as_list P.last)
+tried P = P.first ∷ (P.mids ++ option_to_list P.last)
 
 -- ---- an order between two heights, and between the same on a scale that is s*s larger
 module _ (s : ℕ) {x y x' y' : ℤ} (e : x' ≡ pos s *ℤ pos s *ℤ x) (f : y' ≡ pos s *ℤ pos s *ℤ y) where
@@ -88,7 +88,7 @@ module _ (P : Profile) (n m s : ℕ) (pm : 0 < m) (ps : 0 < s) where
 -- ---- the theorem, in the form: whatever follows from a low instant of the list, and from a path that sinks in a window without an end, holds
 module _ (P : Profile) (n m : ℕ) (pm : 0 < m) (L : Low P n m) (Y : Type 0)
     (found : (t : Instant) → Among t (tried P) → Low P t.n t.m → Y)
-    (sunk : P.last ≡ Never → P.sinks → ((j : ℕ) → P.first ≼ j ÷ 1 → P.In j 1) → Y) where
+    (sunk : P.last ≡ None → P.sinks → ((j : ℕ) → P.first ≼ j ÷ 1 → P.In j 1) → Y) where
   G : ℕ
   G = denominator (tried P)
 
@@ -119,10 +119,10 @@ module _ (P : Profile) (n m : ℕ) (pm : 0 < m) (L : Low P n m) (Y : Type 0)
   over t i = let d = multiple t i in (t.n * d.0, over_multiple t d.0 M M_positive d.1)
 
   mid_tried : (t : Instant) → Among t P.mids → Among t (tried P)
-  mid_tried t i = inr (among_left t P.mids (as_list P.last) i)
+  mid_tried t i = inr (among_left t P.mids (option_to_list P.last) i)
 
-  last_tried : (t : Instant) → Among t (as_list P.last) → Among t (tried P)
-  last_tried t i = inr (among_right t P.mids (as_list P.last) i)
+  last_tried : (t : Instant) → Among t (option_to_list P.last) → Among t (tried P)
+  last_tried t i = inr (among_right t P.mids (option_to_list P.last) i)
 
   -- an instant of the list in the window, no higher than the given time, is low
   reach : (t : Instant) → Among t (tried P) → (x : ℕ) → Over t x M → P.In x M → P.height x M ≤ℤ P.height y M → Y
@@ -132,7 +132,7 @@ module _ (P : Profile) (n m : ℕ) (pm : 0 < m) (L : Low P n m) (Y : Type 0)
   S : (x : ℕ) × Over P.first x M
   S = over P.first (inl refl)
 
-  inside : (E : ℕ) → ((x : ℕ) → x ≤ E → (t : Instant) → Among t (as_list P.last) → x ÷ M ≼ t) → (x : ℕ) → S.0 ≤ x → x ≤ E → P.In x M
+  inside : (E : ℕ) → ((x : ℕ) → x ≤ E → (t : Instant) → Among t (option_to_list P.last) → x ÷ M ≼ t) → (x : ℕ) → S.0 ≤ x → x ≤ E → P.In x M
   inside E f x i j = P.between_in y M x M M_positive given.window (record { after = ge_over P.first S.0 M S.1 x i; before = f x j })
 
   S_y : S.0 ≤ y
@@ -141,12 +141,12 @@ module _ (P : Profile) (n m : ℕ) (pm : 0 < m) (L : Low P n m) (Y : Type 0)
   g : Shape P.height P.mids P.sinks M
   g = P.shape M M_positive (λ t i. multiple t (mid_tried t i))
 
-  closed : (e : Instant) → P.last ≡ At e → Y
+  closed : (e : Instant) → P.last ≡ Some e → Y
   closed e same =
-      let i : Among e (as_list P.last) = subst (λ (l : Moment). Among e (as_list l)) (sym same) (inl refl) in
+      let i : Among e (option_to_list P.last) = subst (λ (l : Option Instant). Among e (option_to_list l)) (sym same) (inl refl) in
       let o = over e (last_tried e i) in
-      let here : (x : ℕ) → x ≤ o.0 → (t : Instant) → Among t (as_list P.last) → x ÷ M ≼ t =
-      λ x h t a. among_one (λ z. x ÷ M ≼ z) e t (le_over e o.0 M o.1 x h) (subst (λ (l : Moment). Among t (as_list l)) same a) in
+      let here : (x : ℕ) → x ≤ o.0 → (t : Instant) → Among t (option_to_list P.last) → x ÷ M ≼ t =
+      λ x h t a. among_one (λ z. x ÷ M ≼ z) e t (le_over e o.0 M o.1 x h) (subst (λ (l : Option Instant). Among t (option_to_list l)) same a) in
       let w = inside o.0 here in
       let h : y ≤ o.0 = over_le e o.0 M o.1 y (P.divisor e (last_tried e i)) ((P.in_between y M M_positive given.window).before e i) in
       let s = S_y in
@@ -156,15 +156,15 @@ module _ (P : Profile) (n m : ℕ) (pm : 0 < m) (L : Low P n m) (Y : Type 0)
       (λ x k a b l. let q = g.places x k in reach q.t (mid_tried q.t q.among) x q.over (w x a b) l)
       (λ k. reach e (last_tried e i) o.0 o.1 (w o.0 (omega arith) (omega arith)) k)
 
-  unending : P.last ≡ Never → Y
+  unending : P.last ≡ None → Y
   unending same =
       least_open g.pieces S.0 y S_y Y
       (λ h. reach P.first (inl refl) S.0 S.1 (w S.0 (omega arith)) h)
       (λ x k i h. let q = g.places x k in reach q.t (mid_tried q.t q.among) x q.over (w x i) h)
       (λ h. sunk same (g.tail h) (λ j a. P.between_in y M j 1 M_positive given.window (record { after = a; before = none j 1 })))
     where
-      none : (x z : ℕ) (t : Instant) → Among t (as_list P.last) → x ÷ z ≼ t
-      none x z t i = absurd (subst (λ (l : Moment). Among t (as_list l)) same i)
+      none : (x z : ℕ) (t : Instant) → Among t (option_to_list P.last) → x ÷ z ≼ t
+      none x z t i = absurd (subst (λ (l : Option Instant). Among t (option_to_list l)) same i)
 
       w : (x : ℕ) → S.0 ≤ x → P.In x M
       w x i = inside x (λ z j. none z M) x i (omega arith)
@@ -172,6 +172,6 @@ module _ (P : Profile) (n m : ℕ) (pm : 0 < m) (L : Low P n m) (Y : Type 0)
   pub low_instant : Y
   low_instant = go P.last refl
     where
-      go : (l : Moment) → P.last ≡ l → Y
-      go Never e = unending e
-      go (At t) e = closed t e
+      go : (l : Option Instant) → P.last ≡ l → Y
+      go None e = unending e
+      go (Some t) e = closed t e

@@ -1,6 +1,8 @@
 -- The two sides as profiles, so that a conflict time on a side gives one among the instants that the rule tries, or a window without an end in which the
 -- path goes towards the intruder for ever; there it reaches the intruder's level by a numeral second. The delay is a hill; the advice rule is a valley, or
 -- goes down for ever; the upper path, turned over, is a hill or goes up for ever. Assumes nothing.
+use Rattle.std.specs.Prelude.{None}
+use Rattle.std.specs.Option.{option_to_list}
 use mathlib.Core.Path.{◌≡◌, refl, sym, ap, ◌∙◌, subst}
 use mathlib.Core.List.{List, [], ◌∷◌}
 use mathlib.Core.Logic.{◌⊎◌, inl, inr, ⊎_elim}
@@ -14,7 +16,6 @@ use Rattle.integers.proofs.Quotation.{quote}
 use Rattle.integers.proofs.Certificates.{ring, by≤, gap≤, gap<, ◌⊞◌, ◌⊠◌, 0≤pos, pos≤, split<}
 use Rattle.integers.proofs.Laws.{≤ℤ-of-≡, <ℤ_≤ℤ, ≤ℤ_trans, negℤ_mono, negℤ_cancel, max0_same, maxℤ_above, maxℤ_right}
 use Rattle.instant.specs.declared.Instant.{Instant}
-use Rattle.instant.specs.declared.Moment.TheVariants.{Never}
 use Rattle.instant.specs.Order.{◌÷◌, ◌≼◌}
 use Rattle.path.specs.declared.SensedQuestion.{SensedQuestion}
 use Rattle.path.specs.declared.Side.{Side}
@@ -22,7 +23,7 @@ use Rattle.path.specs.declared.Side.TheVariants.{Lower, Upper}
 use Rattle.path.specs.Paths.{advice_gain, delay_height, continued, u_d, lower_path, speed_reached, upper_target, upper_path}
 use Rattle.path.specs.Window.{Window, window_start, window_end}
 use Rattle.path.specs.Conflict.{lower_edge, upper_edge, NotBeyond, Conflict}
-use Rattle.path.specs.Instants.{Among, as_list, turning_instant, path_instants, instants}
+use Rattle.path.specs.Instants.{Among, turning_instant, path_instants, instants}
 use Rattle.path.specs.inner.Sizes.{max_speed_difference, Sizes, Sized, search_seconds, search_end}
 use Rattle.path.proofs.Membership.{among_one, among_either}
 use Rattle.path.proofs.AdviceRule.{missing, gain_rises, gain_falls, gain_at_most, gain_at_least, gain_zero, falls_to_turning, rises_from_turning, gain_sinks, delay_rises, delay_falls, upper_delay_rises, upper_delay_falls, gain_scale, delay_scale}
@@ -48,10 +49,10 @@ delay_pieces e M u = last_hill (λ x y z i j k. ⊎_elim
 pub record RuleShape (a w : ℕ) (q x : ℤ) (M : ℕ) : Type 0 where
   pub marks : List ℕ
   pub pieces : Pieces (λ n. advice_gain a q x n M) 0 marks
-  pub places : (y : ℕ) → Among y (later (w * M) marks) → Place (as_list (turning_instant q a w x)) y M
+  pub places : (y : ℕ) → Among y (later (w * M) marks) → Place (option_to_list (turning_instant q a w x)) y M
   pub tail : EndsInHill pieces → q <ℤ pos 0
 
-pub rule_shape : (a w : ℕ) (q x : ℤ) (M : ℕ) → 0 < a → 0 < M → ((t : Instant) → Among t (as_list (turning_instant q a w x)) → Multiple M t) → RuleShape a w q x M
+pub rule_shape : (a w : ℕ) (q x : ℤ) (M : ℕ) → 0 < a → 0 < M → ((t : Instant) → Among t (option_to_list (turning_instant q a w x)) → Multiple M t) → RuleShape a w q x M
 rule_shape a w (pos q) x M pa pM f =
     let g = max0 (neg_ℤ x) in
     let t = w * a + g ÷ a in
@@ -105,7 +106,7 @@ lower_scale s = continued_scale s.strength (delay_height (neg_ℤ (pos s.delay_a
 pub lower_edge_scale : (s : SensedQuestion) (m x : ℕ) → lower_edge s (m * x) ≡ pos x *ℤ pos x *ℤ lower_edge s m
 lower_edge_scale s m x = ring (s.strength ∷ m ∷ x ∷ s.half_height ∷ []) (s.level ∷ []) (λ v. search quote depth 20) tt
 
-turning_divisor : (q : ℤ) (a d : ℕ) (x : ℤ) (t : Instant) → 0 < a → Among t (as_list (turning_instant q a d x)) → 0 < t.m
+turning_divisor : (q : ℤ) (a d : ℕ) (x : ℤ) (t : Instant) → 0 < a → Among t (option_to_list (turning_instant q a d x)) → 0 < t.m
 turning_divisor (pos q) a d x t h i = among_one (λ y. 0 < y.m) (d * a + max0 (neg_ℤ x) ÷ a) t h i
 turning_divisor (negsuc q) a d x t h i = absurd i
 
@@ -180,7 +181,7 @@ path_divisor Upper s z t i = absurd i
 
 pub instants_divisor : (side : Side) (s : SensedQuestion) → Sized side s → (t : Instant) → Among t (instants side s) → 0 < t.m
 instants_divisor side s z t (inl e) = subst (λ (x : Instant). 0 < x.m) (sym e) (window_start_divisor s)
-instants_divisor side s z t (inr i) = ⊎_elim (path_divisor side s z t) (window_end_divisor s t) (among_either t (path_instants side s) (as_list (window_end s)) i)
+instants_divisor side s z t (inr i) = ⊎_elim (path_divisor side s z t) (window_end_divisor s t) (among_either t (path_instants side s) (option_to_list (window_end s)) i)
 
 profile : (side : Side) (s : SensedQuestion) → Sized side s → Profile
 profile Lower s z = record {
@@ -233,7 +234,7 @@ pub record Hit (side : Side) (s : SensedQuestion) : Type 0 where
 
 -- no end, and the path goes towards the intruder for ever; from its start on, every whole second is in the window
 pub record Endless (side : Side) (s : SensedQuestion) : Type 0 where
-  pub endless : window_end s ≡ Never
+  pub endless : window_end s ≡ None
   pub approaches : Approaches side s
   pub inside : (j : ℕ) → window_start s ≼ j ÷ 1 → Window s j 1
 

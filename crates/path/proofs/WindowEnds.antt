@@ -1,5 +1,7 @@
 -- The window is what lies between its start and its end: a time in the window lies between them (`window_between`), and where the window has a time,
 -- all that lies between them is in it (`between_window`). Nothing else about a window is used. Assumes nothing.
+use Rattle.std.specs.Prelude.{None, Option, Some}
+use Rattle.std.specs.Option.{option_to_list}
 use mathlib.Core.Path.{◌≡◌, refl, sym, ap, subst}
 use mathlib.Core.List.{[], ◌∷◌}
 use mathlib.Core.Logic.{inl}
@@ -12,14 +14,11 @@ use Rattle.integers.proofs.Quotation.{quote}
 use Rattle.integers.proofs.Certificates.{by≤, by<, div≤, gap≤, gap<, ◌⊞◌, ◌⊠◌, 0≤pos, pos≤, pos<, nat≤}
 use Rattle.integers.proofs.Laws.{≤ℤ-of-≡, max0_ge, max0_scale, nat_abs_hi, nat_abs_lo, nat_abs_in}
 use Rattle.instant.specs.declared.Instant.{Instant}
-use Rattle.instant.specs.declared.Moment.TheVariants.{Never}
 use Rattle.instant.specs.Order.{◌÷◌, ◌≼◌, earlier}
 use Rattle.instant.proofs.TimeOrder.{earlier_elim, earlier_left, earlier_right, earlier_latest, ≼_trans}
-use Rattle.path.specs.declared.Limit.{Limit}
-use Rattle.path.specs.declared.Limit.TheVariants.{Unlimited, Upto}
 use Rattle.path.specs.declared.SensedQuestion.{SensedQuestion}
 use Rattle.path.specs.Window.{InTime, distance_at, Window, start_of, end_of, window_start, window_end}
-use Rattle.path.specs.Instants.{Among, as_list}
+use Rattle.path.specs.Instants.{Among}
 use Rattle.path.proofs.Membership.{among_one}
 use Rattle.path.proofs.Interval.{Between}
 
@@ -52,11 +51,11 @@ exit_last c p r n m h = nat≤ {m = n * suc c} {n = max0 (r +ℤ pos p) * m}
 limit_last : (L n m : ℕ) → n ≤ L * m → n ÷ m ≼ L ÷ 1
 limit_last L n m h = omega arith
 
-end_last : (c p : ℕ) (r : ℤ) (l : Limit) (n m : ℕ) (t : Instant) → (pos c *ℤ pos n) ≤ℤ ((r +ℤ pos p) *ℤ pos m) → InTime l n m → Among t (as_list (end_of c r p l)) → n ÷ m ≼ t
-end_last zero p r Unlimited n m t h i a = absurd a
-end_last zero p r (Upto L) n m t h i a = among_one (λ x. n ÷ m ≼ x) (L ÷ 1) t (limit_last L n m i) a
-end_last (suc c) p r Unlimited n m t h i a = among_one (λ x. n ÷ m ≼ x) (max0 (r +ℤ pos p) ÷ suc c) t (exit_last c p r n m h) a
-end_last (suc c) p r (Upto L) n m t h i a = among_one (λ x. n ÷ m ≼ x) (earlier (max0 (r +ℤ pos p) ÷ suc c) (L ÷ 1)) t
+end_last : (c p : ℕ) (r : ℤ) (l : Option ℕ) (n m : ℕ) (t : Instant) → (pos c *ℤ pos n) ≤ℤ ((r +ℤ pos p) *ℤ pos m) → InTime l n m → Among t (option_to_list (end_of c r p l)) → n ÷ m ≼ t
+end_last zero p r None n m t h i a = absurd a
+end_last zero p r (Some L) n m t h i a = among_one (λ x. n ÷ m ≼ x) (L ÷ 1) t (limit_last L n m i) a
+end_last (suc c) p r None n m t h i a = among_one (λ x. n ÷ m ≼ x) (max0 (r +ℤ pos p) ÷ suc c) t (exit_last c p r n m h) a
+end_last (suc c) p r (Some L) n m t h i a = among_one (λ x. n ÷ m ≼ x) (earlier (max0 (r +ℤ pos p) ÷ suc c) (L ÷ 1)) t
     (earlier_latest (max0 (r +ℤ pos p) ÷ suc c) (L ÷ 1) (n ÷ m) (exit_last c p r n m h) (limit_last L n m i)) a
 
 pub window_between : (s : SensedQuestion) (n m : ℕ) → Window s n m → Between (window_start s) (window_end s) n m
@@ -92,15 +91,15 @@ before_both n m g c L pc h =
     let positive : 0 < (earlier (g ÷ c) (L ÷ 1)).m = earlier_elim (g ÷ c) (L ÷ 1) (λ t. 0 < t.m) (λ _. pc) (λ _. omega arith) in
     (≼_trans (n ÷ m) (earlier (g ÷ c) (L ÷ 1)) (g ÷ c) positive h (earlier_left (g ÷ c) (L ÷ 1)), ≼_trans (n ÷ m) (earlier (g ÷ c) (L ÷ 1)) (L ÷ 1) positive h (earlier_right (g ÷ c) (L ÷ 1)))
 
-pub record Ended (c p : ℕ) (r : ℤ) (l : Limit) (x y : ℕ) : Type 0 where
+pub record Ended (c p : ℕ) (r : ℤ) (l : Option ℕ) (x y : ℕ) : Type 0 where
   pub exit : (pos c *ℤ pos x) ≤ℤ ((r +ℤ pos p) *ℤ pos y)
   pub intime : InTime l x y
 
-end_in : (c p : ℕ) (r : ℤ) (l : Limit) (n m x y : ℕ) → 0 < m → (pos c *ℤ pos n) ≤ℤ ((r +ℤ pos p) *ℤ pos m) → ((t : Instant) → Among t (as_list (end_of c r p l)) → x ÷ y ≼ t) → Ended c p r l x y
-end_in zero p r Unlimited n m x y pm h f = record { exit = exit_still p r n m x y pm h; intime = tt }
-end_in zero p r (Upto L) n m x y pm h f = record { exit = exit_still p r n m x y pm h; intime = omega (arith, f (L ÷ 1) (inl refl)) }
-end_in (suc c) p r Unlimited n m x y pm h f = record { exit = exit_in c p r n m x y pm h (f (max0 (r +ℤ pos p) ÷ suc c) (inl refl)); intime = tt }
-end_in (suc c) p r (Upto L) n m x y pm h f =
+end_in : (c p : ℕ) (r : ℤ) (l : Option ℕ) (n m x y : ℕ) → 0 < m → (pos c *ℤ pos n) ≤ℤ ((r +ℤ pos p) *ℤ pos m) → ((t : Instant) → Among t (option_to_list (end_of c r p l)) → x ÷ y ≼ t) → Ended c p r l x y
+end_in zero p r None n m x y pm h f = record { exit = exit_still p r n m x y pm h; intime = tt }
+end_in zero p r (Some L) n m x y pm h f = record { exit = exit_still p r n m x y pm h; intime = omega (arith, f (L ÷ 1) (inl refl)) }
+end_in (suc c) p r None n m x y pm h f = record { exit = exit_in c p r n m x y pm h (f (max0 (r +ℤ pos p) ÷ suc c) (inl refl)); intime = tt }
+end_in (suc c) p r (Some L) n m x y pm h f =
     let b = before_both x y (max0 (r +ℤ pos p)) (suc c) L (omega arith) (f (earlier (max0 (r +ℤ pos p) ÷ suc c) (L ÷ 1)) (inl refl)) in
     let k = b.1 in
     record { exit = exit_in c p r n m x y pm h b.0; intime = omega arith }
@@ -115,27 +114,27 @@ start_divisor : (c p : ℕ) (r : ℤ) → 0 < (start_of c r p).m
 start_divisor zero p r = omega arith
 start_divisor (suc c) p r = omega arith
 
-end_divisor : (c p : ℕ) (r : ℤ) (l : Limit) (t : Instant) → Among t (as_list (end_of c r p l)) → 0 < t.m
-end_divisor zero p r Unlimited t a = absurd a
-end_divisor zero p r (Upto L) t a = among_one (λ x. 0 < x.m) (L ÷ 1) t (omega arith) a
-end_divisor (suc c) p r Unlimited t a = among_one (λ x. 0 < x.m) (max0 (r +ℤ pos p) ÷ suc c) t (omega arith) a
-end_divisor (suc c) p r (Upto L) t a = among_one (λ x. 0 < x.m) (earlier (max0 (r +ℤ pos p) ÷ suc c) (L ÷ 1)) t
+end_divisor : (c p : ℕ) (r : ℤ) (l : Option ℕ) (t : Instant) → Among t (option_to_list (end_of c r p l)) → 0 < t.m
+end_divisor zero p r None t a = absurd a
+end_divisor zero p r (Some L) t a = among_one (λ x. 0 < x.m) (L ÷ 1) t (omega arith) a
+end_divisor (suc c) p r None t a = among_one (λ x. 0 < x.m) (max0 (r +ℤ pos p) ÷ suc c) t (omega arith) a
+end_divisor (suc c) p r (Some L) t a = among_one (λ x. 0 < x.m) (earlier (max0 (r +ℤ pos p) ÷ suc c) (L ÷ 1)) t
     (earlier_elim (max0 (r +ℤ pos p) ÷ suc c) (L ÷ 1) (λ x. 0 < x.m) (λ _. omega arith) (λ _. omega arith)) a
 
 pub window_start_divisor : (s : SensedQuestion) → 0 < (window_start s).m
 window_start_divisor s = start_divisor s.closing_speed s.radius s.distance
 
-pub window_end_divisor : (s : SensedQuestion) (t : Instant) → Among t (as_list (window_end s)) → 0 < t.m
+pub window_end_divisor : (s : SensedQuestion) (t : Instant) → Among t (option_to_list (window_end s)) → 0 < t.m
 window_end_divisor s = end_divisor s.closing_speed s.radius s.distance s.limit
 
 -- ---- without an end c is 0, and the window starts at 0
-pub endless_start_zero : (s : SensedQuestion) → window_end s ≡ Never → window_start s ≡ 0 ÷ 1
-endless_start_zero s e = go s.closing_speed s.limit (ap as_list e)
+pub endless_start_zero : (s : SensedQuestion) → window_end s ≡ None → window_start s ≡ 0 ÷ 1
+endless_start_zero s e = go s.closing_speed s.limit (ap option_to_list e)
   where
-    go : (c : ℕ) (l : Limit) → as_list (end_of c s.distance s.radius l) ≡ [] → start_of c s.distance s.radius ≡ 0 ÷ 1
+    go : (c : ℕ) (l : Option ℕ) → option_to_list (end_of c s.distance s.radius l) ≡ [] → start_of c s.distance s.radius ≡ 0 ÷ 1
     go zero l h = refl
-    go (suc c) Unlimited h = absurd (let z : ◌≡◌ {A = ℕ} 0 1 = cc in omega arith)
-    go (suc c) (Upto L) h = absurd (let z : ◌≡◌ {A = ℕ} 0 1 = cc in omega arith)
+    go (suc c) None h = absurd (let z : ◌≡◌ {A = ℕ} 0 1 = cc in omega arith)
+    go (suc c) (Some L) h = absurd (let z : ◌≡◌ {A = ℕ} 0 1 = cc in omega arith)
 
-pub endless_start : (s : SensedQuestion) → window_end s ≡ Never → (j : ℕ) → window_start s ≼ j ÷ 1
+pub endless_start : (s : SensedQuestion) → window_end s ≡ None → (j : ℕ) → window_start s ≼ j ÷ 1
 endless_start s e j = subst (λ (t : Instant). t ≼ j ÷ 1) (sym (endless_start_zero s e)) (omega arith)

@@ -1,19 +1,15 @@
 -- "The window is every rational t ≥ 0, up to the limit if one is set, with |r − c × t| ≤ p"; and its two ends. s is a sensed question.
-use Rattle.std.specs.Prelude.{ℕ, zero, suc, ◌*◌, ◌≤◌, ℤ, pos, ◌+ℤ◌, ◌-ℤ◌, ◌*ℤ◌, nat_abs}
+use Rattle.std.specs.Prelude.{ℕ, zero, suc, ◌*◌, ◌≤◌, ℤ, pos, ◌+ℤ◌, ◌-ℤ◌, ◌*ℤ◌, nat_abs, None, Option, Some}
 use Rattle.integers.specs.Extremes.{max0}
 use Rattle.instant.specs.declared.Instant.{Instant}
-use Rattle.instant.specs.declared.Moment.{Moment}
-use Rattle.instant.specs.declared.Moment.TheVariants.{At, Never}
 use Rattle.instant.specs.Order.{◌÷◌, earlier}
-use Rattle.path.specs.declared.Limit.{Limit}
-use Rattle.path.specs.declared.Limit.TheVariants.{Unlimited, Upto}
 use Rattle.path.specs.declared.SensedQuestion.{SensedQuestion}
 use Rattle.path.specs.Letters.{r, c, p}
 
 -- n/m is no later than the limit
-abbrev pub InTime : Limit → ℕ → ℕ → Type 0
-InTime Unlimited n m = Unit {0}
-InTime (Upto L) n m = n ≤ L * m
+abbrev pub InTime : Option ℕ → ℕ → ℕ → Type 0
+InTime None n m = Unit {0}
+InTime (Some L) n m = n ≤ L * m
 
 -- r − c × t, times m
 abbrev pub distance_at : SensedQuestion → ℕ → ℕ → ℤ
@@ -37,11 +33,11 @@ abbrev pub exit_of : ℕ → ℤ → ℕ → Instant
 exit_of c r p = max0 (r +ℤ pos p) ÷ c
 
 -- It ends at (r + p)/c or at the limit, whichever is earlier, and never where c = 0 and no limit is set.
-abbrev pub end_of : ℕ → ℤ → ℕ → Limit → Moment
-end_of zero r p Unlimited = Never
-end_of zero r p (Upto L) = At (L ÷ 1)
-end_of (suc c) r p Unlimited = At (exit_of (suc c) r p)
-end_of (suc c) r p (Upto L) = At (earlier (exit_of (suc c) r p) (L ÷ 1))
+abbrev pub end_of : ℕ → ℤ → ℕ → Option ℕ → Option Instant
+end_of zero r p None = None
+end_of zero r p (Some L) = Some (L ÷ 1)
+end_of (suc c) r p None = Some (exit_of (suc c) r p)
+end_of (suc c) r p (Some L) = Some (earlier (exit_of (suc c) r p) (L ÷ 1))
 
-abbrev pub window_end : SensedQuestion → Moment
+abbrev pub window_end : SensedQuestion → Option Instant
 window_end s = end_of (c s) (r s) (p s) s.limit

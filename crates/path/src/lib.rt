@@ -1,12 +1,11 @@
 // The question that the paths answer, with heights and speeds in the advisory's sense. `specs/Letters.antt` gives document 01's letter for each field.
 #![tactic(auto)]
 
-// Until when a question looks.
-#[derive(Clone, Copy)]
-pub enum Limit {
-    Unlimited,
-    Upto(u64),
-}
+mod side_question;
+mod sized_question;
+
+pub use side_question::SideQuestion;
+pub use sized_question::SizedQuestion;
 
 #[derive(Clone, Copy)]
 pub struct SensedQuestion {
@@ -27,7 +26,8 @@ pub struct SensedQuestion {
     // The upper advice of a two-sided question.
     pub upper_target: i64,
     pub upper_strength: u64,
-    pub limit: Limit,
+    // Until when the question looks, in seconds.
+    pub limit: Option<u64>,
 }
 
 // One-sided, the side is the lower one.

@@ -1,9 +1,8 @@
 -- An example with all three pieces, M10's question (document 01, "Marked for proof"): code 12 climbs to 1,500 with 483 after 5 s, from v 0, with e 966. So
 -- u_d is −4,830, G 6,330, and the last straight begins at 5 + 6,330/483, which is 18 and 17/161.
-use Rattle.std.specs.Prelude.{List, [], ◌∷◌, pos, neg_ℤ}
+use Rattle.std.specs.Prelude.{List, [], ◌∷◌, pos, neg_ℤ, None}
 use Rattle.instant.specs.declared.Time.{Time}
 use Rattle.instant.specs.Order.{◌÷◌}
-use Rattle.path.specs.declared.Limit.TheVariants.{Unlimited}
 use Rattle.path.specs.declared.SensedQuestion.{SensedQuestion}
 use Rattle.pieces.specs.declared.WholePiece.{WholePiece}
 
@@ -21,7 +20,7 @@ example_question = record {
   delay_acceleration = 966;
   upper_target = pos 0;
   upper_strength = 0;
-  limit = Unlimited;
+  limit = None;
 }
 
 abbrev pub example_pieces : List WholePiece

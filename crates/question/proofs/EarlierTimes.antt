@@ -1,5 +1,6 @@
 -- What became of refusal 6: before document 02 let two-sided questions have a delay, it was also "a delay when two-sided". Without a delay, and one-sided, the
 -- first refusal is the earlier one. Assumes nothing.
+use Rattle.std.specs.Prelude.{Result, ⊤}
 use mathlib.Core.Path.{◌≡◌, refl, sym, ap, ◌∙◌}
 use mathlib.Core.Bool.{Bool, true, false, not, ◌&&◌, ◌||◌, and-true}
 use mathlib.Core.List.{List, [], ◌∷◌}
@@ -10,8 +11,8 @@ use Rattle.limits.specs.Limits.{delay_within}
 use Rattle.question.specs.declared.Encounter.{Encounter}
 use Rattle.question.specs.declared.Settings.{Settings}
 use Rattle.question.specs.declared.Question.{Question}
-use Rattle.question.specs.declared.Checked.{Checked}
 use Rattle.question.specs.Refusals.{is_number, two_sided, encounter_within, puck_within, delay_acceleration_within, sides_known, targets_within, strengths_within, upper_target_in_sense, upper_unused, limit_allowed, times_within, Check, check, first_refusal, refusal}
+use Rattle.question.specs.declared.refusal.Refusal.{Refusal}
 
 -- ---- the earlier rule: "6 delay or limit outside limits, or a delay when two-sided"
 abbrev pub no_delay : Question → Bool
@@ -23,18 +24,18 @@ earlier_times_within z = (delay_within z.delay && (not (two_sided z) || no_delay
 -- the checks, with any sixth
 abbrev checks_with : Bool → Encounter → Settings → Question → List Check
 checks_with times x y z =
-    check 1 (encounter_within x)
-    ∷ check 2 (puck_within y)
-    ∷ check 3 (delay_acceleration_within y)
-    ∷ check 4 (sides_known z)
-    ∷ check 5 (targets_within z)
-    ∷ check 14 (strengths_within z)
-    ∷ check 15 (upper_target_in_sense z)
-    ∷ check 16 (upper_unused z)
-    ∷ check 6 times
+    check Refusal.EncounterOutside (encounter_within x)
+    ∷ check Refusal.PuckOutside (puck_within y)
+    ∷ check Refusal.DelayAccelerationOutside (delay_acceleration_within y)
+    ∷ check Refusal.SidesOrSenseUnknown (sides_known z)
+    ∷ check Refusal.TargetOutside (targets_within z)
+    ∷ check Refusal.StrengthOutside (strengths_within z)
+    ∷ check Refusal.UpperTargetBelow (upper_target_in_sense z)
+    ∷ check Refusal.UpperFieldsUsed (upper_unused z)
+    ∷ check Refusal.TimesOutside times
     ∷ []
 
-unfoldable pub earlier_refusal : Encounter → Settings → Question → Checked
+unfoldable pub earlier_refusal : Encounter → Settings → Question → Result ⊤ Refusal
 earlier_refusal x y z = first_refusal (checks_with (earlier_times_within z) x y z)
 
 -- ---- "A delay within limits is no longer a ground for 6"

@@ -1,4 +1,5 @@
 -- An accepted question is within document 01's limits, field by field: the tie from the ordered refusals to every bound. Assumes nothing.
+use Rattle.std.specs.Prelude.{Err, Ok}
 use mathlib.Core.Path.{◌≡◌, refl, sym, subst}
 use mathlib.Core.Bool.{Bool, true, false, not, cond, ◌&&◌, ◌||◌}
 use mathlib.Core.List.{List, [], ◌∷◌}
@@ -16,7 +17,6 @@ use Rattle.integers.proofs.Laws.{≤ℤ_trans}
 use Rattle.question.specs.declared.Encounter.{Encounter}
 use Rattle.question.specs.declared.Settings.{Settings}
 use Rattle.question.specs.declared.Question.{Question}
-use Rattle.question.specs.declared.Checked.{Checked}
 use Rattle.question.specs.Refusals.{is_number, two_sided, sides_known, targets_within, strengths_ordered, strengths_within, upper_target_in_sense, upper_zero, upper_unused, limit_allowed, Check, first_refusal, plain_checks, refusal}
 
 -- ---- accepted: every test is passed
@@ -24,11 +24,11 @@ abbrev pub AllPass : List Check → Type 0
 AllPass [] = Unit {0}
 AllPass (c ∷ l) = T c.passes × AllPass l
 
-pub all_pass : (l : List Check) → first_refusal l ≡ Checked.Accepted → AllPass l
+pub all_pass : (l : List Check) → first_refusal l ≡ Ok tt → AllPass l
 all_pass [] e = tt
 all_pass (c ∷ l) e = go c.passes (all_pass l) e
   where
-    go : (b : Bool) → (first_refusal l ≡ Checked.Accepted → AllPass l) → cond b (first_refusal l) (Checked.Refused c.number) ≡ Checked.Accepted → T b × AllPass l
+    go : (b : Bool) → (first_refusal l ≡ Ok tt → AllPass l) → cond b (first_refusal l) (Err c.refusal) ≡ Ok tt → T b × AllPass l
     go true f h = (tt, f h)
     go false f h = absurd (let z : ◌≡◌ {A = ℕ} 0 1 = cc in omega arith)
 
@@ -72,7 +72,7 @@ pub record WithinLimits (x : Encounter) (y : Settings) (z : Question) : Type 0 w
   pub delay : Between (pos 0) (pos max_delay) z.delay
   pub limit : T (limit_allowed z)
 
-module _ (x : Encounter) (y : Settings) (z : Question) (e : refusal x y z ≡ Checked.Accepted) where
+module _ (x : Encounter) (y : Settings) (z : Question) (e : refusal x y z ≡ Ok tt) where
   passed : AllPass (plain_checks x y z)
   unfolding refusal
   passed = all_pass (plain_checks x y z) e

@@ -1,2 +1,3 @@
 pub mod StartingSettings
+pub mod RefusalNumbers
 pub mod Refusals

@@ -1,6 +1,6 @@
 -- "Who can cause a refusal": the condition of each number, and the order in which the entry for plain numbers tests them. x is an encounter, y the settings,
 -- z a question.
-use Rattle.std.specs.Prelude.{Bool, not, cond, ◌&&◌, ◌||◌, List, [], ◌∷◌, ℕ, ℤ, pos}
+use Rattle.std.specs.Prelude.{Bool, not, cond, ◌&&◌, ◌||◌, List, [], ◌∷◌, ℕ, ℤ, pos, Err, Ok, Result, ⊤}
 use Rattle.std.specs.Int.Signed.{le_z}
 use Rattle.limits.specs.Limits.{within, distance_within, height_within, closing_speed_within, speed_within, radius_within, half_height_within, strength_within, acceleration_within, target_within, delay_within, limit_within, no_limit}
 use Rattle.advisory.specs.declared.Sense.{Sense}
@@ -9,8 +9,7 @@ use Rattle.advisory.specs.Sign.{sensed}
 use Rattle.question.specs.declared.Encounter.{Encounter}
 use Rattle.question.specs.declared.Settings.{Settings}
 use Rattle.question.specs.declared.Question.{Question}
-use Rattle.question.specs.declared.Checked.{Checked}
-use Rattle.question.specs.declared.Checked.TheVariants.{Accepted, Refused}
+use Rattle.question.specs.declared.refusal.Refusal.{Refusal}
 
 -- x is the number n
 abbrev pub is_number : ℤ → ℤ → Bool
@@ -74,37 +73,37 @@ limit_allowed z = limit_within z.limit || is_number no_limit z.limit
 abbrev pub times_within : Question → Bool
 times_within z = delay_within z.delay && limit_allowed z
 
--- a refusal's number, and the test that a question must pass not to get it
+-- a refusal, and the test that a question must pass not to get it
 pub record Check : Type 0 where
-  pub number : ℕ
+  pub refusal : Refusal
   pub passes : Bool
 
-abbrev pub check : ℕ → Bool → Check
-check number passes = record { number = number; passes = passes }
+abbrev pub check : Refusal → Bool → Check
+check refusal passes = record { refusal = refusal; passes = passes }
 
 -- the first of a list, in its order, that fails
-abbrev pub first_refusal : List Check → Checked
-first_refusal [] = Accepted
-first_refusal (c ∷ l) = cond c.passes (first_refusal l) (Refused c.number)
+abbrev pub first_refusal : List Check → Result ⊤ Refusal
+first_refusal [] = Ok tt
+first_refusal (c ∷ l) = cond c.passes (first_refusal l) (Err c.refusal)
 
--- the numbers of a question's own fields: 14 to 16 are "tested right after 5 in rising order", and so before 6
+-- those of a question's own fields, 4, 5, 14, 15, 16, 6: 14 to 16 are "tested right after 5 in rising order", and so before 6
 abbrev pub question_checks : Question → List Check
 question_checks z =
-    check 4 (sides_known z)
-    ∷ check 5 (targets_within z)
-    ∷ check 14 (strengths_within z)
-    ∷ check 15 (upper_target_in_sense z)
-    ∷ check 16 (upper_unused z)
-    ∷ check 6 (times_within z)
+    check Refusal.SidesOrSenseUnknown (sides_known z)
+    ∷ check Refusal.TargetOutside (targets_within z)
+    ∷ check Refusal.StrengthOutside (strengths_within z)
+    ∷ check Refusal.UpperTargetBelow (upper_target_in_sense z)
+    ∷ check Refusal.UpperFieldsUsed (upper_unused z)
+    ∷ check Refusal.TimesOutside (times_within z)
     ∷ []
 
 -- "The entry that judges plain numbers": 1, 2, 3, then those of the question
 abbrev pub plain_checks : Encounter → Settings → Question → List Check
 plain_checks x y z =
-    check 1 (encounter_within x)
-    ∷ check 2 (puck_within y)
-    ∷ check 3 (delay_acceleration_within y)
+    check Refusal.EncounterOutside (encounter_within x)
+    ∷ check Refusal.PuckOutside (puck_within y)
+    ∷ check Refusal.DelayAccelerationOutside (delay_acceleration_within y)
     ∷ question_checks z
 
-unfoldable pub refusal : Encounter → Settings → Question → Checked
+unfoldable pub refusal : Encounter → Settings → Question → Result ⊤ Refusal
 refusal x y z = first_refusal (plain_checks x y z)

@@ -8,8 +8,14 @@ ghost use Rattle.question.specs.Refusals.{climbs, sense_of, two_sided, encounter
 use advisory::Sense;
 use limits::{
     MAX_CLOSING_SPEED, MAX_DELAY_ACCELERATION, MAX_DISTANCE, MAX_HALF_HEIGHT, MAX_HEIGHT,
-    MAX_RADIUS, MAX_SPEED, MIN_DISTANCE, MIN_HALF_HEIGHT, MIN_HEIGHT, MIN_SPEED,
+    MAX_RADIUS, MAX_SPEED, MIN_DISTANCE, MIN_HALF_HEIGHT, MIN_HEIGHT, MIN_SPEED, within,
 };
+
+pub mod accepted;
+pub mod refusal;
+
+pub use accepted::AcceptedQuestion;
+pub use refusal::Refusal;
 
 // The intruder seen from the ownship: r, h, c, v, vi.
 #[derive(Clone, Copy)]
@@ -61,61 +67,47 @@ pub struct Question {
     pub limit: i64,
 }
 
-// What the tests of plain numbers say: accepted, or the refusal's number.
-#[derive(Clone, Copy)]
-pub enum Checked {
-    Accepted,
-    Refused(u8),
-}
-
+// The tests are joined by `&`, which doesn't branch: of an accepted encounter each is made in any case.
 pub fn encounter_within(encounter: Encounter) -> bool
     ensures { result ≡ encounter_within encounter }
 {
-    ((MIN_DISTANCE <= encounter.distance) & (encounter.distance <= MAX_DISTANCE))
-        & ((MIN_HEIGHT <= encounter.height) & (encounter.height <= MAX_HEIGHT))
-        & ((0 <= encounter.closing_speed) & (encounter.closing_speed <= MAX_CLOSING_SPEED))
-        & ((MIN_SPEED <= encounter.speed) & (encounter.speed <= MAX_SPEED))
-        & ((MIN_SPEED <= encounter.intruder_speed) & (encounter.intruder_speed <= MAX_SPEED))
+    within(MIN_DISTANCE, MAX_DISTANCE, encounter.distance)
+        & within(MIN_HEIGHT, MAX_HEIGHT, encounter.height)
+        & within(0, MAX_CLOSING_SPEED, encounter.closing_speed)
+        & within(MIN_SPEED, MAX_SPEED, encounter.speed)
+        & within(MIN_SPEED, MAX_SPEED, encounter.intruder_speed)
 }
 
 pub fn puck_within(settings: Settings) -> bool
     ensures { result ≡ puck_within settings }
 {
-    ((0 <= settings.radius) & (settings.radius <= MAX_RADIUS))
-        & ((MIN_HALF_HEIGHT <= settings.half_height) & (settings.half_height <= MAX_HALF_HEIGHT))
+    within(0, MAX_RADIUS, settings.radius)
+        & within(MIN_HALF_HEIGHT, MAX_HALF_HEIGHT, settings.half_height)
 }
 
 pub fn delay_acceleration_within(settings: Settings) -> bool
     ensures { result ≡ delay_acceleration_within settings }
 {
-    (0 <= settings.delay_acceleration) & (settings.delay_acceleration <= MAX_DELAY_ACCELERATION)
+    within(0, MAX_DELAY_ACCELERATION, settings.delay_acceleration)
 }
 
 pub fn sides_known(question: Question) -> bool
     ensures { result ≡ sides_known question }
 {
-    (((1 <= question.sides) & (question.sides <= 1))
-        | ((2 <= question.sides) & (question.sides <= 2)))
-        & (((0 <= question.sense) & (question.sense <= 0))
-            | ((1 <= question.sense) & (question.sense <= 1)))
+    ((question.sides == 1) | (question.sides == 2))
+        & ((question.sense == 0) | (question.sense == 1))
 }
 
 pub fn two_sided(question: Question) -> bool
     ensures { result ≡ two_sided question }
 {
-    (2 <= question.sides) & (question.sides <= 2)
-}
-
-fn climbs(question: Question) -> bool
-    ensures { result ≡ climbs question }
-{
-    (1 <= question.sense) & (question.sense <= 1)
+    question.sides == 2
 }
 
 pub fn sense_of(question: Question) -> Sense
     ensures { result ≡ sense_of question }
 {
-    if climbs(question) {
+    if question.sense == 1 {
         Sense::Climb
     } else {
         Sense::Descend

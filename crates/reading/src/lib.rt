@@ -15,9 +15,8 @@ pub const NAME_ROOM: usize = 4096;
 // How many arguments there are, the program's own name among them.
 pub fn argument_count<E: Env>(env: &E) -> usize {
     for k in 0..usize::MAX {
-        match env.arg(k, &mut []) {
-            Err(FillError::NotPresent) => return k,
-            Ok(_) | Err(FillError::TooLong) => {}
+        if let Err(FillError::NotPresent) = env.arg(k, &mut []) {
+            return k;
         }
     }
     usize::MAX
@@ -27,10 +26,7 @@ pub fn argument_count<E: Env>(env: &E) -> usize {
 pub fn argument<E: Env>(env: &E, k: usize, room: &mut [u8]) -> usize
     ensures { (result ≤ length room.new) × (result ≡ length (take result room.new)) }
 {
-    match env.arg(k, room) {
-        Ok(length) => length,
-        Err(_) => 0,
-    }
+    env.arg(k, room).unwrap_or(0)
 }
 
 // Opens the file of that name for reading. A name that is no text is no file's here.
@@ -57,6 +53,7 @@ pub fn read_full<R: Read>(reader: &mut R, room: &mut [u8]) -> io::Result<usize>
     ensures bytes { IfOk result (λ n. IfSome (R.remaining reader.old) (λ input. take n room.new ≡ take (length room.new) input)) }
     ensures rest { IfOk result (λ n. Consumes (R.remaining reader.old) (R.remaining reader.new) (take n room.new)) }
 {
+    // The library's `read_exact` fails where the input ends before the room, and `read_to_end` allocates.
     let mut at = 0;
     while at < room.len() {
         let n = reader.read(&mut room[at..])?;

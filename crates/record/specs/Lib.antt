@@ -2,3 +2,4 @@ pub mod Numbers
 pub mod Kinds
 pub mod Records
 pub mod SheetCheck
+pub mod RecordsLeft

@@ -2,13 +2,19 @@
 #![tactic(auto)]
 
 ghost use Rattle.std.specs.Prelude.{◌≡◌, ◌+◌, ◌≤◌, ◌<◌, length, drop, pos};
-ghost use Rattle.record.specs.Numbers.{byte_at, short_at, word_at, signed, number_at};
-ghost use Rattle.record.specs.Kinds.{kind_of, body_length, known};
+ghost use Rattle.std.specs.Option.{option_map};
+ghost use Rattle.record.specs.Numbers.{byte_at, short_at, word_at, number_at};
+ghost use Rattle.record.specs.Kinds.{kind_of, known_kind, body_length, body_after};
 ghost use Rattle.record.specs.Records.{encounter_in, question_in, record_of};
 ghost use Rattle.record.specs.SheetCheck.{fault_after, sheet_check};
 
-use question::{Checked, Encounter, Question};
+use question::{Encounter, Question, Refusal};
 
+pub mod records;
+
+pub use records::Records;
+
+// What a record is, which its first byte says.
 #[derive(Clone, Copy)]
 pub enum Kind {
     Encounter,
@@ -16,10 +22,41 @@ pub enum Kind {
     DelayAcceleration,
     Coded,
     Free,
-    Unknown,
 }
 
-// A record with its numbers: r, h, c, v, vi; p, k; e; code, limit; a free question. One of unknown kind has none.
+impl TryFrom<u8> for Kind {
+    type Error = Refusal;
+
+    ghost try_from_gives = { λ byte given. given ≡ known_kind byte };
+
+    fn try_from(byte: u8) -> Result<Kind, Refusal> {
+        match byte {
+            1 => Ok(Kind::Encounter),
+            2 => Ok(Kind::Puck),
+            3 => Ok(Kind::DelayAcceleration),
+            4 => Ok(Kind::Coded),
+            5 => Ok(Kind::Free),
+            _ => Err(Refusal::KindUnknown),
+        }
+    }
+}
+
+impl Kind {
+    // How many bytes follow the kind's own.
+    pub fn body_length(self) -> usize
+        ensures { result ≡ body_length self }
+    {
+        match self {
+            Kind::Encounter => 20,
+            Kind::Puck => 8,
+            Kind::DelayAcceleration => 4,
+            Kind::Coded => 3,
+            Kind::Free => 22,
+        }
+    }
+}
+
+// A record with its numbers: r, h, c, v, vi; p, k; e; code, limit; a free question.
 #[derive(Clone, Copy)]
 pub enum Record {
     Encounter(Encounter),
@@ -27,47 +64,25 @@ pub enum Record {
     DelayAcceleration(i64),
     Coded(u8, i64),
     Free(Question),
-    Unknown,
 }
 
 const MAX_SHEET: usize = 8192;
-
-// A byte as a number of 64 bits.
-pub fn wide(byte: u8) -> u64
-    ensures { (result ≡ byte) × (result < 256) }
-{
-    byte as u64
-}
 
 // The four bytes at a position, unsigned.
 pub fn word_at(bytes: &[u8], at: usize) -> u64
     requires { at + 4 ≤ length bytes.now }
     ensures { (result ≡ word_at bytes.now at) × (result < 4294967296) }
 {
-    let first = wide(bytes[at]);
-    let second = wide(bytes[at + 1]);
-    let third = wide(bytes[at + 2]);
-    let fourth = wide(bytes[at + 3]);
-    first * 16777216 + second * 65536 + third * 256 + fourth
+    u64::from(u32::from_be_bytes([bytes[at], bytes[at + 1], bytes[at + 2], bytes[at + 3]]))
 }
 
-// Two's complement.
-fn signed(n: u64) -> i64
-    requires { n < 4294967296 }
-    ensures { result ≡ signed n }
-{
-    if n < 2147483648 {
-        return n as i64;
-    }
-    n as i64 - 4294967296
-}
-
+// The same in two's complement.
 #[tactic(auto, unfolding(crate::specs::Numbers::number_at))]
 fn number_at(bytes: &[u8], at: usize) -> i64
     requires { at + 4 ≤ length bytes.now }
     ensures { result ≡ number_at bytes.now at }
 {
-    signed(word_at(bytes, at))
+    i64::from(i32::from_be_bytes([bytes[at], bytes[at + 1], bytes[at + 2], bytes[at + 3]]))
 }
 
 // The two bytes at a position, unsigned.
@@ -75,55 +90,14 @@ fn short_at(bytes: &[u8], at: usize) -> i64
     requires { at + 2 ≤ length bytes.now }
     ensures { result ≡ pos (short_at bytes.now at) }
 {
-    let first = wide(bytes[at]);
-    let second = wide(bytes[at + 1]);
-    (first * 256 + second) as i64
+    i64::from(u16::from_be_bytes([bytes[at], bytes[at + 1]]))
 }
 
 fn byte_at(bytes: &[u8], at: usize) -> i64
     requires { at < length bytes.now }
     ensures { result ≡ pos (byte_at bytes.now at) }
 {
-    wide(bytes[at]) as i64
-}
-
-fn kind_of(byte: u8) -> Kind
-    ensures { result ≡ kind_of byte }
-{
-    match byte {
-        1 => Kind::Encounter,
-        2 => Kind::Puck,
-        3 => Kind::DelayAcceleration,
-        4 => Kind::Coded,
-        5 => Kind::Free,
-        _ => Kind::Unknown,
-    }
-}
-
-fn body_length(kind: Kind) -> usize
-    ensures { result ≡ body_length kind }
-{
-    match kind {
-        Kind::Encounter => 20,
-        Kind::Puck => 8,
-        Kind::DelayAcceleration => 4,
-        Kind::Coded => 3,
-        Kind::Free => 22,
-        Kind::Unknown => 0,
-    }
-}
-
-fn is_known(kind: Kind) -> bool
-    ensures { result ≡ known kind }
-{
-    match kind {
-        Kind::Encounter => true,
-        Kind::Puck => true,
-        Kind::DelayAcceleration => true,
-        Kind::Coded => true,
-        Kind::Free => true,
-        Kind::Unknown => false,
-    }
+    i64::from(bytes[at])
 }
 
 #[tactic(auto, unfolding(crate::specs::Records::encounter_in))]
@@ -168,54 +142,47 @@ fn record_of(kind: Kind, body: &[u8]) -> Record
         Kind::DelayAcceleration => Record::DelayAcceleration(number_at(body, 0)),
         Kind::Coded => Record::Coded(body[0], short_at(body, 1)),
         Kind::Free => Record::Free(question_in(body)),
-        Kind::Unknown => Record::Unknown,
     }
 }
 
-// The record whose kind's byte stands at a position.
-pub fn record_at(sheet: &[u8], at: usize) -> Record
-    requires { (at < length sheet.now) × (at + 1 + body_length (kind_of (byte_at sheet.now at)) ≤ length sheet.now) }
-    ensures { result ≡ record_of (kind_of (byte_at sheet.now at)) (drop (at + 1) sheet.now) }
+// The record whose kind's byte stands at a position, if the kind is known.
+pub fn record_at(sheet: &[u8], at: usize) -> Option<Record>
+    requires { (at < length sheet.now) × (at + 1 + body_after (kind_of (byte_at sheet.now at)) ≤ length sheet.now) }
+    ensures { result ≡ option_map (λ kind. record_of kind (drop (at + 1) sheet.now)) (kind_of (byte_at sheet.now at)) }
 {
-    let kind = kind_of(sheet[at]);
-    let body = at + 1;
-    record_of(kind, &sheet[body..])
+    let kind = Kind::try_from(sheet[at]).ok()?;
+    Some(record_of(kind, &sheet[at + 1..]))
 }
 
-// The position after that record.
+// The position after that record; an unknown kind has no body.
 pub fn next_at(sheet: &[u8], at: usize) -> usize
     requires { at < length sheet.now }
-    ensures { result ≡ at + 1 + body_length (kind_of (byte_at sheet.now at)) }
+    ensures { result ≡ at + 1 + body_after (kind_of (byte_at sheet.now at)) }
 {
-    at + 1 + body_length(kind_of(sheet[at]))
+    at + 1 + Kind::try_from(sheet[at]).map_or(0, |kind| kind.body_length())
 }
 
 // The first fault of the kinds and the lengths of the bodies.
-fn first_fault(sheet: &[u8]) -> Checked
+#[tactic(auto, using(crate::proofs::Scan::fault_unknown, crate::proofs::Scan::fault_short, crate::proofs::Scan::fault_later, crate::proofs::Scan::from_place), unfolding(crate::specs::SheetCheck::fault_after))]
+fn first_fault(sheet: &[u8]) -> Result<(), Refusal>
     ensures { result ≡ fault_after 0 sheet.now }
 {
-    let mut at: usize = 0;
-    while at < sheet.len() {
-        let kind = kind_of(sheet[at]);
-        if !is_known(kind) {
-            return Checked::Refused(11);
-        }
-        let left = sheet.len() - at - 1;
-        let body = body_length(kind);
-        if left < body {
-            return Checked::Refused(12);
-        }
-        at = at + 1 + body;
+    let mut rest = sheet;
+    while let Some((first, after)) = rest.split_first() {
+        let kind = Kind::try_from(*first)?;
+        rest = after
+            .get(kind.body_length()..)
+            .ok_or(Refusal::RecordCutShort)?;
     }
-    Checked::Accepted
+    Ok(())
 }
 
 // Refusals 10, 11 and 12.
-pub fn check_sheet(sheet: &[u8]) -> Checked
+pub fn check_sheet(sheet: &[u8]) -> Result<(), Refusal>
     ensures { result ≡ sheet_check sheet.now }
 {
     if MAX_SHEET < sheet.len() {
-        return Checked::Refused(10);
+        return Err(Refusal::SheetTooLong);
     }
     first_fault(sheet)
 }

@@ -1,64 +1,42 @@
 // Refusals 1 to 6 and 14 to 16: what a question must meet besides the fields' limits, and the tests in their order. The conditions are `question`'s specs/Refusals.antt.
 #![tactic(auto)]
 
-ghost use Rattle.std.specs.Prelude.{◌≡◌, ◌&&◌};
+ghost use Rattle.std.specs.Prelude.{◌≡◌, IfOk, IfErr, Err, ◌&&◌};
 ghost use Rattle.std.specs.Int.Signed.{le_z};
 ghost use Rattle.limits.specs.Limits.{strength_within, delay_within};
 ghost use Rattle.question.specs.Refusals.{targets_within, strengths_ordered, strengths_within, targets_ordered, upper_target_in_sense, upper_zero, upper_unused, limit_allowed, times_within, question_checks, first_refusal, refusal};
 
 use advisory::Sense;
-use limits::{MAX_DELAY, MAX_LIMIT, MAX_SPEED, MAX_STRENGTH, MIN_SPEED, MIN_STRENGTH, NO_LIMIT};
+use limits::{
+    MAX_DELAY, MAX_LIMIT, MAX_SPEED, MAX_STRENGTH, MIN_SPEED, MIN_STRENGTH, NO_LIMIT, within,
+};
 use question::{
-    Checked, Encounter, Question, Settings, delay_acceleration_within, encounter_within,
-    puck_within, sense_of, sides_known, two_sided,
+    AcceptedQuestion, Encounter, Question, Refusal, Settings, delay_acceleration_within,
+    encounter_within, puck_within, sense_of, sides_known, two_sided,
 };
 
 // Refusal 5.
 fn targets_within(question: Question) -> bool
     ensures { result ≡ targets_within question }
 {
-    ((MIN_SPEED <= question.target) & (question.target <= MAX_SPEED))
-        & (!((2 <= question.sides) & (question.sides <= 2))
-            | ((MIN_SPEED <= question.upper_target) & (question.upper_target <= MAX_SPEED)))
+    within(MIN_SPEED, MAX_SPEED, question.target)
+        & (!two_sided(question) | within(MIN_SPEED, MAX_SPEED, question.upper_target))
 }
 
-fn strength_within(question: Question) -> bool
-    ensures { result ≡ strength_within question.strength }
+fn strength_within(strength: i64) -> bool
+    ensures { result ≡ strength_within strength }
 {
-    (MIN_STRENGTH <= question.strength) & (question.strength <= MAX_STRENGTH)
+    within(MIN_STRENGTH, MAX_STRENGTH, strength)
 }
 
-// The upper strength is within its limits, and no lower than the strength.
-fn upper_strength_within(question: Question) -> bool
-    ensures { result ≡ (strength_within question.upper_strength && strengths_ordered question) }
-{
-    ((MIN_STRENGTH <= question.upper_strength) & (question.upper_strength <= MAX_STRENGTH))
-        & (question.strength <= question.upper_strength)
-}
-
-// Refusal 14.
+// Refusal 14: two-sided, the upper strength is no lower than the strength.
 fn strengths_within(question: Question) -> bool
     ensures { result ≡ strengths_within question }
 {
-    if !strength_within(question) {
-        return false;
-    }
-    if two_sided(question) {
-        return upper_strength_within(question);
-    }
-    true
-}
-
-fn target_at_most_upper(question: Question) -> bool
-    ensures { result ≡ le_z question.target question.upper_target }
-{
-    question.target <= question.upper_target
-}
-
-fn upper_at_most_target(question: Question) -> bool
-    ensures { result ≡ le_z question.upper_target question.target }
-{
-    question.upper_target <= question.target
+    strength_within(question.strength)
+        & (!two_sided(question)
+            | (strength_within(question.upper_strength)
+                & (question.strength <= question.upper_strength)))
 }
 
 // The upper target is no lower than the target, in the sense.
@@ -66,8 +44,8 @@ fn targets_ordered(question: Question) -> bool
     ensures { result ≡ targets_ordered question }
 {
     match sense_of(question) {
-        Sense::Climb => target_at_most_upper(question),
-        Sense::Descend => upper_at_most_target(question),
+        Sense::Climb => question.target <= question.upper_target,
+        Sense::Descend => question.upper_target <= question.target,
     }
 }
 
@@ -75,90 +53,88 @@ fn targets_ordered(question: Question) -> bool
 fn upper_target_in_sense(question: Question) -> bool
     ensures { result ≡ upper_target_in_sense question }
 {
-    if two_sided(question) {
-        return targets_ordered(question);
-    }
-    true
-}
-
-fn upper_zero(question: Question) -> bool
-    ensures { result ≡ upper_zero question }
-{
-    ((0 <= question.upper_target) & (question.upper_target <= 0))
-        & ((0 <= question.upper_strength) & (question.upper_strength <= 0))
+    !two_sided(question) | targets_ordered(question)
 }
 
 // Refusal 16.
 fn upper_unused(question: Question) -> bool
     ensures { result ≡ upper_unused question }
 {
-    if two_sided(question) {
-        return true;
-    }
-    upper_zero(question)
-}
-
-fn delay_within(question: Question) -> bool
-    ensures { result ≡ delay_within question.delay }
-{
-    (0 <= question.delay) & (question.delay <= MAX_DELAY)
+    two_sided(question) | ((question.upper_target == 0) & (question.upper_strength == 0))
 }
 
 fn limit_allowed(question: Question) -> bool
     ensures { result ≡ limit_allowed question }
 {
-    ((0 <= question.limit) & (question.limit <= MAX_LIMIT))
-        | ((NO_LIMIT <= question.limit) & (question.limit <= NO_LIMIT))
+    within(0, MAX_LIMIT, question.limit) | (question.limit == NO_LIMIT)
 }
 
 // Refusal 6.
 fn times_within(question: Question) -> bool
     ensures { result ≡ times_within question }
 {
-    if !delay_within(question) {
-        return false;
-    }
-    limit_allowed(question)
+    within(0, MAX_DELAY, question.delay) & limit_allowed(question)
 }
 
 // A question's own refusals: 4, 5, 14, 15, 16, 6.
-fn check_fields(question: Question) -> Checked
+fn check_fields(question: Question) -> Result<(), Refusal>
     ensures { result ≡ first_refusal (question_checks question) }
 {
     if !sides_known(question) {
-        return Checked::Refused(4);
+        return Err(Refusal::SidesOrSenseUnknown);
     }
     if !targets_within(question) {
-        return Checked::Refused(5);
+        return Err(Refusal::TargetOutside);
     }
     if !strengths_within(question) {
-        return Checked::Refused(14);
+        return Err(Refusal::StrengthOutside);
     }
     if !upper_target_in_sense(question) {
-        return Checked::Refused(15);
+        return Err(Refusal::UpperTargetBelow);
     }
     if !upper_unused(question) {
-        return Checked::Refused(16);
+        return Err(Refusal::UpperFieldsUsed);
     }
     if !times_within(question) {
-        return Checked::Refused(6);
+        return Err(Refusal::TimesOutside);
     }
-    Checked::Accepted
+    Ok(())
 }
 
 // The refusals of plain numbers: 1, 2, 3, then the question's own.
 #[tactic(auto, unfolding(question::specs::Refusals::refusal))]
-pub fn check_question(encounter: Encounter, settings: Settings, question: Question) -> Checked
+pub fn check_question(
+    encounter: Encounter,
+    settings: Settings,
+    question: Question,
+) -> Result<(), Refusal>
     ensures { result ≡ refusal encounter settings question }
 {
     if !encounter_within(encounter) {
-        return Checked::Refused(1);
+        return Err(Refusal::EncounterOutside);
     }
     if !puck_within(settings) {
-        return Checked::Refused(2);
+        return Err(Refusal::PuckOutside);
     }
     if !delay_acceleration_within(settings) {
-        return Checked::Refused(3);
+        return Err(Refusal::DelayAccelerationOutside);
     }
     check_fields(question)
+}
+
+// A question that no test refuses, as one.
+pub fn accept(
+    encounter: Encounter,
+    settings: Settings,
+    question: Question,
+) -> Result<AcceptedQuestion, Refusal>
+    ensures same { IfOk result (λ asked. (asked.encounter ≡ encounter) × (asked.settings ≡ settings) × (asked.question ≡ question)) }
+    ensures refused { IfErr result (λ why. refusal encounter settings question ≡ Err why) }
+{
+    check_question(encounter, settings, question)?;
+    Ok(AcceptedQuestion {
+        encounter,
+        settings,
+        question,
+    })
 }

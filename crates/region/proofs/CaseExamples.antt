@@ -1,10 +1,10 @@
 -- Questions at the corners of Figures 3 and 5, each at the edge of a case or a bound, with the regions' tests computed. Assumes nothing.
+use Rattle.std.specs.Prelude.{None}
 use mathlib.Core.Path.{◌≡◌, refl}
 use mathlib.Core.Bool.{Bool, true, false}
 use mathlib.Core.List.{List, [], ◌∷◌, map}
 use Prim.Native.Nat.{ℕ}
 use lib.IntN.{ℤ, pos, neg_ℤ}
-use Rattle.path.specs.declared.Limit.TheVariants.{Unlimited}
 use Rattle.path.specs.declared.SensedQuestion.{SensedQuestion}
 use Rattle.region.specs.Formula.{Formula}
 use Rattle.region.specs.inner.Holds.{holds}
@@ -30,7 +30,7 @@ example r c p wh u q d e clear = record {
     delay_acceleration = e;
     upper_target = pos 0;
     upper_strength = 0;
-    limit = Unlimited;
+    limit = None;
   };
   clear = clear;
 }

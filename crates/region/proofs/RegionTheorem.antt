@@ -1,6 +1,7 @@
 -- The region theorem: for a question without a limit, Figure 3 (without a delay) and Figure 5 (with any) say exactly that no conflict time exists on the
 -- lower side. A conflict up to d is the delay's, a conflict from d on is that of the advice rule begun at d; `Immediate` and `Delayed` do the rest. Of a
 -- question's sizes only the positive strength is used.
+use Rattle.std.specs.Prelude.{None, Option}
 use mathlib.Core.Path.{◌≡◌, sym, ap, ◌∙◌, subst}
 use mathlib.Core.List.{[], ◌∷◌}
 use mathlib.Core.Logic.Iff
@@ -14,8 +15,6 @@ use Rattle.integers.proofs.Quotation.{quote}
 use Rattle.integers.proofs.Certificates.{ring, modulo, by≤, gap≤, pos<, split<}
 use Rattle.integers.proofs.Laws.{split≤}
 use Rattle.instant.specs.Order.{◌÷◌}
-use Rattle.path.specs.declared.Limit.{Limit}
-use Rattle.path.specs.declared.Limit.TheVariants.{Unlimited}
 use Rattle.path.specs.declared.SensedQuestion.{SensedQuestion}
 use Rattle.path.specs.declared.Side.TheVariants.{Lower}
 use Rattle.path.specs.Letters.{r, c, p, k, wh, u, q, a, d, e}
@@ -34,7 +33,7 @@ use Rattle.region.proofs.Corners.{same_sign, Beyond, Clear, Within}
 use Rattle.region.proofs.Immediate.{figure_3}
 use Rattle.region.proofs.Delayed.{Until, After, figure_5}
 
-module _ (s : SensedQuestion) (pa : 0 < a s) (endless : s.limit ≡ Unlimited) where
+module _ (s : SensedQuestion) (pa : 0 < a s) (endless : s.limit ≡ None) where
   abbrev Delay : ℕ → ℕ → ℤ
   Delay = delay_height (neg_ℤ (pos (e s))) (u s)
 
@@ -59,7 +58,7 @@ module _ (s : SensedQuestion) (pa : 0 < a s) (endless : s.limit ≡ Unlimited) w
   window_is : (n m : ℕ) → Window s n m ↔ Within (c s) (p s) (r s) n m
   window_is n m = (
     λ w. record { from = window_from w; till = window_till w },
-    λ w. window_by w.from w.till (subst (λ (l : Limit). InTime l n m) (sym endless) tt),
+    λ w. window_by w.from w.till (subst (λ (l : Option ℕ). InTime l n m) (sym endless) tt),
   )
 
   window_after : (x m : ℕ) → Window s (d s * m + x) m ↔ Within (c s) (p s) (r s -ℤ pos (c s) *ℤ pos (d s)) x m
@@ -157,22 +156,22 @@ module _ (s : SensedQuestion) (pa : 0 < a s) (endless : s.limit ≡ Unlimited) w
 
 -- ---- the theorem
 -- Figure 3, without a delay
-pub immediate_region : (s : SensedQuestion) → Sizes s → s.limit ≡ Unlimited → s.delay ≡ 0 → Says (L_expl s) ↔ (¬ ConflictExists Lower s)
+pub immediate_region : (s : SensedQuestion) → Sizes s → s.limit ≡ None → s.delay ≡ 0 → Says (L_expl s) ↔ (¬ ConflictExists Lower s)
 unfolding L_expl
 immediate_region s sizes endless at_once =
     Iff.trans (figure_3 (c s) (p s) (k s) (a s) sizes.a_lo (r s) (pos 2 *ℤ wh s) (u s) (q s))
     (Iff.trans (Iff.symm (no_delay_lem s sizes.a_lo endless at_once)) (Iff.trans (all_after s sizes.a_lo endless at_once) (none_exists s sizes.a_lo endless)))
 
 -- Figure 5, with any delay
-pub delayed_region : (s : SensedQuestion) → Sizes s → s.limit ≡ Unlimited → Says (D_expl s) ↔ (¬ ConflictExists Lower s)
+pub delayed_region : (s : SensedQuestion) → Sizes s → s.limit ≡ None → Says (D_expl s) ↔ (¬ ConflictExists Lower s)
 unfolding D_expl
 delayed_region s sizes endless =
     Iff.trans (figure_5 (c s) (p s) (k s) (a s) (e s) (d s) sizes.a_lo (r s) (pos 2 *ℤ wh s) (u s) (q s))
     (Iff.trans (two_parts s sizes.a_lo endless) (none_exists s sizes.a_lo endless))
 
 -- and as tests
-pub immediate_region_test : (s : SensedQuestion) → Sizes s → s.limit ≡ Unlimited → s.delay ≡ 0 → T (holds (L_expl s)) ↔ (¬ ConflictExists Lower s)
+pub immediate_region_test : (s : SensedQuestion) → Sizes s → s.limit ≡ None → s.delay ≡ 0 → T (holds (L_expl s)) ↔ (¬ ConflictExists Lower s)
 immediate_region_test s sizes endless at_once = Iff.trans (decides (L_expl s)) (immediate_region s sizes endless at_once)
 
-pub delayed_region_test : (s : SensedQuestion) → Sizes s → s.limit ≡ Unlimited → T (holds (D_expl s)) ↔ (¬ ConflictExists Lower s)
+pub delayed_region_test : (s : SensedQuestion) → Sizes s → s.limit ≡ None → T (holds (D_expl s)) ↔ (¬ ConflictExists Lower s)
 delayed_region_test s sizes endless = Iff.trans (decides (D_expl s)) (delayed_region s sizes endless)

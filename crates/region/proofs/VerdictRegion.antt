@@ -1,6 +1,7 @@
 -- The regions are the judge's answer: an accepted question with one side and no limit is called clear exactly where Figure 3 (without a delay) and
 -- Figure 5 (with any) hold, and so is every code from 1 to 16 that 17 does not refuse, with Table 1's columns in Figure 5. The judge is right about the paths (its Demand3), and
 -- the region theorem is about the paths, so that nothing here speaks of the rule for the time shown. Assumes nothing.
+use Rattle.std.specs.Prelude.{Err, None, Ok, Result}
 use mathlib.Core.Path.{◌≡◌, refl, sym, ap, ◌∙◌, subst}
 use mathlib.Core.Bool.{false, true, ◌&&◌, ◌||◌, cond}
 use mathlib.Core.Logic.Iff
@@ -19,7 +20,6 @@ use Rattle.integers.proofs.Laws.{≤ℤ_trans, max0_same}
 use Rattle.advisory.specs.declared.Sense.{Sense}
 use Rattle.advisory.specs.declared.Sense.TheVariants.{Climb, Descend}
 use Rattle.advisory.specs.declared.Instruction.{Instruction}
-use Rattle.advisory.specs.declared.Advised.{Advised}
 use Rattle.advisory.specs.Sign.{sensed}
 use Rattle.advisory.specs.Catalogue.{rate_of, CodeWithin}
 use Rattle.advisory.specs.Advised.{advised_of, instruction_in}
@@ -27,18 +27,15 @@ use Rattle.advisory.specs.inner.Codes.{InLimits, Standing}
 use Rattle.advisory.proofs.CodeRanges.{standing}
 use Rattle.advisory.proofs.Limits.{in_limits}
 use Rattle.advisory.proofs.TablesAgree.{advised_is_table_1}
-use Rattle.path.specs.declared.Limit.TheVariants.{Unlimited}
 use Rattle.path.specs.declared.SensedQuestion.{SensedQuestion}
 use Rattle.path.specs.declared.Side.TheVariants.{Lower}
 use Rattle.path.specs.Conflict.{ConflictExists}
 use Rattle.question.specs.declared.Encounter.{Encounter}
 use Rattle.question.specs.declared.Settings.{Settings}
 use Rattle.question.specs.declared.Question.{Question}
-use Rattle.question.specs.declared.Checked.{Checked}
 use Rattle.verdict.specs.declared.ClearSides.{ClearSides}
 use Rattle.verdict.specs.declared.Verdict.{Verdict}
 use Rattle.verdict.specs.declared.Verdict.TheVariants.{Clear, Conflict, Conflicts}
-use Rattle.judge.specs.declared.Answer.{Answer}
 use Rattle.limits.specs.Limits.{distance_within, height_within, closing_speed_within, max_speed, speed_within, target_within, strength_within, delay_within, no_limit}
 use Rattle.question.specs.Refusals.{is_number, two_sided, encounter_within, puck_within, delay_acceleration_within, sides_known, targets_within, strengths_within, times_within, refusal}
 use Rattle.sensed.specs.Sensed.{limit_of, sensed_question}
@@ -56,6 +53,8 @@ use Rattle.region.specs.Regions.{L_expl, D_expl}
 use Rattle.region.specs.JudgedRegion.{clear_record, advisory_region}
 use Rattle.region.specs.inner.ClearExactly.{clear_verdict, clear_answer, ClearExactly, CodeClearExactly}
 use Rattle.region.proofs.RegionTheorem.{immediate_region, delayed_region}
+use Rattle.advisory.specs.declared.CodeError.{CodeError}
+use Rattle.question.specs.declared.refusal.Refusal.{Refusal}
 
 -- ---- clear is one verdict, one answer and one record
 clear_verdict_lem : (s : SensedQuestion) (v : Verdict) → RightOneSided s v → (v ≡ clear_verdict) ↔ (¬ ConflictExists Lower s)
@@ -71,22 +70,22 @@ kind_of r = r.kind
 abbrev first_value : AnswerRecord → ℕ
 first_value r = get_or r.values 0 0
 
-clear_record_lem : (r : Answer) → answer_record r ≡ clear_record → r ≡ clear_answer
-clear_record_lem (Answer.Judged (Clear ClearSides.Lower)) e = refl
-clear_record_lem (Answer.Judged (Clear ClearSides.Upper)) e = absurd (omega (arith, ap first_value e))
-clear_record_lem (Answer.Judged (Clear ClearSides.Both)) e = absurd (omega (arith, ap first_value e))
-clear_record_lem (Answer.Judged (Conflict t)) e = absurd (omega (arith, ap kind_of e))
-clear_record_lem (Answer.Judged (Conflicts t u)) e = absurd (omega (arith, ap kind_of e))
-clear_record_lem (Answer.Refused n) e = absurd (omega (arith, ap kind_of e))
+clear_record_lem : (r : Result Verdict Refusal) → answer_record r ≡ clear_record → r ≡ clear_answer
+clear_record_lem (Ok (Clear ClearSides.Lower)) e = refl
+clear_record_lem (Ok (Clear ClearSides.Upper)) e = absurd (omega (arith, ap first_value e))
+clear_record_lem (Ok (Clear ClearSides.Both)) e = absurd (omega (arith, ap first_value e))
+clear_record_lem (Ok (Conflict t)) e = absurd (omega (arith, ap kind_of e))
+clear_record_lem (Ok (Conflicts t u)) e = absurd (omega (arith, ap kind_of e))
+clear_record_lem (Err n) e = absurd (omega (arith, ap kind_of e))
 
-module _ (x : Encounter) (y : Settings) (z : Question) (accepted : refusal x y z ≡ Checked.Accepted) (one : two_sided z ≡ false) where
+module _ (x : Encounter) (y : Settings) (z : Question) (accepted : refusal x y z ≡ Ok tt) (one : two_sided z ≡ false) where
   -- a formula that says that no conflict time exists is the judge's "clear"
   clear_exactly : (region : Formula) → Says region ↔ (¬ ConflictExists Lower (sensed_question x y z)) → ClearExactly x y z region
   clear_exactly region no-conflict =
       let v = verdict z (sensed_question x y z) in
       let by_verdict : (v ≡ clear_verdict) ↔ Says region = Iff.trans (clear_verdict_lem (sensed_question x y z) v (one_sided_lem x y z accepted one)) (Iff.symm no-conflict) in
       let is = judged x y z accepted in
-      let by_answer : (answer x y z ≡ clear_answer) ↔ Says region = Iff.trans (λ e. cc, λ e. is ∙ ap Answer.Judged e) by_verdict in
+      let by_answer : (answer x y z ≡ clear_answer) ↔ Says region = Iff.trans (λ e. cc, λ e. is ∙ ap Ok e) by_verdict in
       record {
         by_verdict = by_verdict;
         by_answer = by_answer;
@@ -94,7 +93,7 @@ module _ (x : Encounter) (y : Settings) (z : Question) (accepted : refusal x y z
       }
 
   module _ (no-limit : z.limit ≡ no_limit) where
-    endless : (sensed_question x y z).limit ≡ Unlimited
+    endless : (sensed_question x y z).limit ≡ None
     unfolding sensed_question
     endless = ap limit_of no-limit
 
@@ -142,7 +141,7 @@ module _ (x : Encounter) (y : Settings) (encounter : encounter_within x ≡ true
     times = and_i (delay_within (pos i.delay)) true (within_in (0≤pos i.delay) (pos≤ limits.delay_to)) tt
 
     -- the encounter and the settings meet conditions 1 to 3, an instruction meets the rest
-    coded_accepted : refusal x y question ≡ Checked.Accepted
+    coded_accepted : refusal x y question ≡ Ok tt
     unfolding refusal
     coded_accepted =
         picks_yes (encounter_within x) _ _ encounter
@@ -170,7 +169,7 @@ module _ (x : Encounter) (y : Settings) (encounter : encounter_within x ≡ true
     instruction_clear = subst (ClearExactly x y question) same_region (clear_is_delayed_region x y question coded_accepted refl refl)
 
   -- a code byte that advises something, and nothing that the ownship can't maintain
-  pub advised_code : (code : ℕ) → code < 256 → maintainable code x.speed ≡ true → (i : Instruction) → advised_of code ≡ Advised.Judged i → CodeClearExactly x y code
+  pub advised_code : (code : ℕ) → code < 256 → maintainable code x.speed ≡ true → (i : Instruction) → advised_of code ≡ Ok i → CodeClearExactly x y code
   unfolding coded_question
   advised_code code byte may i e =
       let limits = in_limits code byte i e in
@@ -178,7 +177,7 @@ module _ (x : Encounter) (y : Settings) (encounter : encounter_within x ≡ true
         line = i;
         in_table_1 = sym (advised_is_table_1 code byte) ∙ ap instruction_in e;
         question = instructed i x.speed no_limit;
-        asked = ap (λ (a : Advised). asked code a x.speed no_limit) e ∙ picks_yes _ _ _ may;
+        asked = ap (λ (a : Result Instruction CodeError). asked code a x.speed no_limit) e ∙ picks_yes _ _ _ may;
         accepted = coded_accepted i limits;
         clear = instruction_clear i limits;
       }
@@ -190,7 +189,7 @@ module _ (x : Encounter) (y : Settings) (encounter : encounter_within x ≡ true
       byte : code < 256
       byte = omega (arith, range.1)
 
-      go : (a : Advised) → advised_of code ≡ a → Standing code a → CodeClearExactly x y code
-      go (Advised.Judged i) e stands = advised_code code byte may i e
-      go Advised.NotJudged e stands = absurd (omega (arith, range.1, stands.0))
-      go Advised.Unknown e stands = absurd (⊎_elim (λ (low : code < 1). omega (arith, range.0)) (λ (high : 18 < code). omega (arith, range.1)) stands)
+      go : (a : Result Instruction CodeError) → advised_of code ≡ a → Standing code a → CodeClearExactly x y code
+      go (Ok i) e stands = advised_code code byte may i e
+      go (Err CodeError.NotJudged) e stands = absurd (omega (arith, range.1, stands.0))
+      go (Err CodeError.Unknown) e stands = absurd (⊎_elim (λ (low : code < 1). omega (arith, range.0)) (λ (high : 18 < code). omega (arith, range.1)) stands)

@@ -1,11 +1,11 @@
 -- Runs of bytes stored one after the other are one run stored. Assumes nothing.
 use mathlib.Core.Path.{◌≡◌, sym, ap, ◌∙◌}
-use mathlib.Core.List.{List, [], ◌∷◌, ◌++◌}
+use mathlib.Core.List.{List, [], ◌∷◌, ◌++◌, append_assoc}
 use Prim.Native.Nat.{ℕ, suc, ◌+◌, ◌≤◌}
 use native.Mathlib.Nat.{add-zero, zero-add}
 use native.Mathlib.Omega.{arith}
-use lib.ListN.{length, set, drop}
-use lib.Seq.{sets, sets-eq}
+use lib.ListN.{length, set, take, drop}
+use lib.Seq.{sets, sets-eq, drop-drop}
 
 next : (w n : ℕ) → w + suc n ≡ suc w + n
 next w n = omega arith
@@ -17,16 +17,12 @@ sets_append d at (x ∷ xs) ys = sets_append (set d at x) (suc at) xs ys ∙ ap 
 pub two_stores : (d : List ℕ) (w a b : ℕ) → set (set d w a) (w + 1) b ≡ sets d w (a ∷ b ∷ [])
 two_stores d w a b = sym (sets_append d w (a ∷ []) (b ∷ []))
 
-pub four_stores : (d : List ℕ) (w a b c e : ℕ) → set (set (set (set d w a) (w + 1) b) (w + 2) c) (w + 3) e ≡ sets d w (a ∷ b ∷ c ∷ e ∷ [])
-four_stores d w a b c e =
-    ap (λ (l : List ℕ). set (set l (w + 2) c) (w + 3) e) (two_stores d w a b)
-    ∙ ap (λ (l : List ℕ). set l (w + 3) e) (sym (sets_append d w (a ∷ b ∷ []) (c ∷ [])))
-    ∙ sym (sets_append d w (a ∷ b ∷ c ∷ []) (e ∷ []))
-
--- a byte, then a run
-pub one_then : (d : List ℕ) (w a : ℕ) (xs : List ℕ) → sets (set d w a) (w + 1) xs ≡ sets d w (a ∷ xs)
-one_then d w a xs = sym (sets_append d w (a ∷ []) xs)
-
 -- a run stored from the start on, and the rest of the area
 pub stored_first : (bytes area : List ℕ) → length bytes ≤ length area → sets area 0 bytes ≡ bytes ++ drop (length bytes) area
 stored_first bytes area h = sets-eq bytes area 0 (omega arith) ∙ ap (λ (n : ℕ). bytes ++ drop n area) (zero-add (length bytes))
+
+-- a run copied into its place
+pub copied : (area bytes : List ℕ) (at count : ℕ) → count ≡ length bytes → at + length bytes ≤ length area → take at area ++ (bytes ++ drop count (drop at area)) ≡ sets area at bytes
+copied area bytes at count e h =
+    ap (λ (l : List ℕ). take at area ++ (bytes ++ l)) (ap (λ (n : ℕ). drop n (drop at area)) e ∙ drop-drop (length bytes) at area)
+    ∙ sym (append_assoc (take at area) bytes (drop (at + length bytes) area)) ∙ sym (sets-eq bytes area at h)

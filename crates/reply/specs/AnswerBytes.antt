@@ -1,10 +1,9 @@
 -- "Answer records: kind 65 clear, body 1 byte (1 lower side clear, 2 upper, 3 both; one-sided always 1); kind 66 one-sided conflict, whole seconds, remainder,
 -- divisor, 4 unsigned bytes each; kind 67 two such times, lower first; kind 68 one byte, the refusal number." (Kinds and values: judge, specs/Answers.antt.)
-use Rattle.std.specs.Prelude.{cond, ◌||◌, List, [], ◌∷◌, ◌++◌, ℕ, ◌/◌, ◌%◌, eqb}
-use Rattle.std.proofs.Math.Option.{Option, none, some}
+use Rattle.std.specs.Prelude.{cond, ◌||◌, List, [], ◌∷◌, ◌++◌, ℕ, ◌/◌, ◌%◌, eqb, None, Option, Result, Some}
 use Rattle.judge.specs.Answers.{AnswerRecord, answer_record}
-use Rattle.reply.specs.declared.Reply.{Reply}
-use Rattle.reply.specs.declared.Reply.TheVariants.{Silent, Answered}
+use Rattle.question.specs.declared.refusal.Refusal.{Refusal}
+use Rattle.verdict.specs.declared.Verdict.{Verdict}
 
 -- the four bytes of an unsigned number below 2³², the most significant first; of a larger one, the bytes of its remainder by 2³² (no time
 -- shown has one: `ShownTime.small`)
@@ -23,14 +22,7 @@ body_bytes kind (value ∷ rest) = value_bytes kind value ++ body_bytes kind res
 abbrev pub record_bytes : AnswerRecord → List ℕ
 record_bytes r = r.kind ∷ body_bytes r.kind r.values
 
--- the answer record that a reply writes, if it writes one
-abbrev pub reply_record : Reply → Option AnswerRecord
-reply_record Silent = none
-reply_record (Answered a) = some (answer_record a)
-
-abbrev pub written_for : Option AnswerRecord → List ℕ
-written_for none = []
-written_for (some r) = record_bytes r
-
-abbrev pub reply_bytes : Reply → List ℕ
-reply_bytes reply = written_for (reply_record reply)
+-- a reply's answer record, if it has one
+abbrev pub reply_bytes : Option (Result Verdict Refusal) → List ℕ
+reply_bytes None = []
+reply_bytes (Some answer) = record_bytes (answer_record answer)

@@ -3,59 +3,42 @@
 
 ghost use Rattle.std.specs.Prelude.{◌≡◌, ◌+◌, ◌≤◌, length};
 ghost use Rattle.std.proofs.lemmas.List.Edits.{sets};
-ghost use Rattle.judge.specs.declared.Answer.TheVariants.{Judged};
 ghost use Rattle.judge.specs.Answers.{time_numbers};
-ghost use Rattle.reply.specs.declared.Reply.TheVariants.{Answered};
 ghost use Rattle.reply.specs.AnswerBytes.{big_endian, body_bytes, reply_bytes};
 
 use instant::Time;
-use judge::{Answer, sides_number};
+use judge::sides_number;
+use question::Refusal;
 use verdict::Verdict;
 
-// What a record is answered: nothing, or an answer record.
-#[derive(Clone, Copy)]
-pub enum Reply {
-    Silent,
-    Answered(Answer),
-}
+// The kinds of answer records.
+const CLEAR: u8 = 65;
 
-fn verdict_length(verdict: Verdict) -> usize
-    ensures { result ≡ length (reply_bytes (Answered (Judged verdict))) }
-{
-    match verdict {
-        Verdict::Clear(_) => 2,
-        Verdict::Conflict(_) => 13,
-        Verdict::Conflicts(_, _) => 25,
-    }
-}
+const CONFLICT: u8 = 66;
 
-fn answer_length(answer: Answer) -> usize
-    ensures { result ≡ length (reply_bytes (Answered answer)) }
-{
-    match answer {
-        Answer::Judged(verdict) => verdict_length(verdict),
-        Answer::Refused(_) => 2,
-    }
-}
+const CONFLICTS: u8 = 67;
 
-pub fn reply_length(reply: Reply) -> usize
+const REFUSED: u8 = 68;
+
+// How many bytes a record's reply has: none, or an answer record's.
+pub fn reply_length(reply: Option<Result<Verdict, Refusal>>) -> usize
     ensures { result ≡ length (reply_bytes reply) }
 {
     match reply {
-        Reply::Silent => 0,
-        Reply::Answered(answer) => answer_length(answer),
+        None => 0,
+        Some(Ok(Verdict::Clear(_))) => 2,
+        Some(Ok(Verdict::Conflict(_))) => 13,
+        Some(Ok(Verdict::Conflicts(_, _))) => 25,
+        Some(Err(_)) => 2,
     }
 }
 
-// A number's four bytes, the most significant first.
+// A number's low four bytes, the most significant first.
 fn write_number(area: &mut [u8], at: usize, n: u64)
     requires { at + 4 ≤ length area.old }
     ensures { area.new ≡ sets area.old at (big_endian n) }
 {
-    area[at] = (n / 16777216 % 256) as u8;
-    area[at + 1] = (n / 65536 % 256) as u8;
-    area[at + 2] = (n / 256 % 256) as u8;
-    area[at + 3] = (n % 256) as u8;
+    area[at..at + 4].copy_from_slice(&n.to_be_bytes()[4..]);
 }
 
 fn write_time(area: &mut [u8], at: usize, time: Time)
@@ -67,50 +50,37 @@ fn write_time(area: &mut [u8], at: usize, time: Time)
     write_number(area, at + 8, time.divisor);
 }
 
-fn write_verdict(area: &mut [u8], at: usize, verdict: Verdict)
-    requires { at + length (reply_bytes (Answered (Judged verdict))) ≤ length area.old }
-    ensures { area.new ≡ sets area.old at (reply_bytes (Answered (Judged verdict))) }
+fn write_answer(area: &mut [u8], at: usize, answer: Result<Verdict, Refusal>)
+    requires { at + length (reply_bytes (Some answer)) ≤ length area.old }
+    ensures { area.new ≡ sets area.old at (reply_bytes (Some answer)) }
 {
-    match verdict {
-        Verdict::Clear(sides) => {
-            area[at] = 65;
+    match answer {
+        Ok(Verdict::Clear(sides)) => {
+            area[at] = CLEAR;
             area[at + 1] = sides_number(sides);
         }
-        Verdict::Conflict(time) => {
-            area[at] = 66;
+        Ok(Verdict::Conflict(time)) => {
+            area[at] = CONFLICT;
             write_time(area, at + 1, time);
         }
-        Verdict::Conflicts(lower, upper) => {
-            area[at] = 67;
+        Ok(Verdict::Conflicts(lower, upper)) => {
+            area[at] = CONFLICTS;
             write_time(area, at + 1, lower);
             write_time(area, at + 13, upper);
         }
-    }
-}
-
-fn write_answer(area: &mut [u8], at: usize, answer: Answer)
-    requires { at + length (reply_bytes (Answered answer)) ≤ length area.old }
-    ensures { area.new ≡ sets area.old at (reply_bytes (Answered answer)) }
-{
-    match answer {
-        Answer::Judged(verdict) => {
-            write_verdict(area, at, verdict);
-        }
-        Answer::Refused(number) => {
-            area[at] = 68;
-            area[at + 1] = number;
+        Err(why) => {
+            area[at] = REFUSED;
+            area[at + 1] = why.number();
         }
     }
 }
 
-pub fn write_reply(area: &mut [u8], at: usize, reply: Reply)
+// What a record is answered, if anything.
+pub fn write_reply(area: &mut [u8], at: usize, reply: Option<Result<Verdict, Refusal>>)
     requires { at + length (reply_bytes reply) ≤ length area.old }
     ensures { area.new ≡ sets area.old at (reply_bytes reply) }
 {
-    match reply {
-        Reply::Silent => {}
-        Reply::Answered(answer) => {
-            write_answer(area, at, answer);
-        }
+    if let Some(answer) = reply {
+        write_answer(area, at, answer);
     }
 }

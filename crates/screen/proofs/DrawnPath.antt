@@ -1,4 +1,5 @@
 -- The drawing of an accepted question is right, and so is the point of each second from 0 to 600; all others are refused. Assumes nothing.
+use Rattle.std.specs.Prelude.{Err, Ok, Result, ⊤}
 use mathlib.Core.Path.{◌≡◌, refl, sym, ap, subst, ◌∙◌}
 use mathlib.Core.Bool.{Bool, true, false, cond}
 use mathlib.Core.List.{List, [], ◌∷◌}
@@ -16,7 +17,6 @@ use Rattle.path.specs.inner.Sizes.{Sizes}
 use Rattle.question.specs.declared.Encounter.{Encounter}
 use Rattle.question.specs.declared.Settings.{Settings}
 use Rattle.question.specs.declared.Question.{Question}
-use Rattle.question.specs.declared.Checked.{Checked}
 use Rattle.question.specs.Refusals.{is_number, refusal}
 use Rattle.sensed.specs.Sensed.{sensed_question}
 use Rattle.sensed.proofs.AcceptedSizes.{accepted_sizes}
@@ -26,15 +26,17 @@ use Rattle.pieces.specs.inner.PieceSizes.{most_square, most_linear, most_constan
 use Rattle.pieces.proofs.Fields.{delay_sizes, arc_sizes, last_sizes, piece_at_sizes}
 use Rattle.pieces.proofs.PathPieces.{held_follows, right_pieces}
 use Rattle.screen.specs.declared.Piece.{Piece}
+use Rattle.screen.specs.declared.DrawnPiece.{DrawnPiece}
 use Rattle.screen.specs.declared.Drawing.{Drawing}
-use Rattle.screen.specs.declared.PointAnswer.{PointAnswer}
 use Rattle.screen.specs.Floats.{float, Exactly}
-use Rattle.screen.specs.Drawings.{float_piece, drawn_pieces, Content, refused, drawn, content, checked_content, screen_drawing}
+use Rattle.screen.specs.Drawings.{float_piece, drawn_pieces, pieces_of, content, checked_content, screen_drawing}
 use Rattle.screen.specs.Points.{drawn_height, point_at, point_refusal, checked_point, screen_point}
 use Rattle.screen.specs.RightScreen.{IsStraight, ExactPiece, AllExact, RightDrawing, RightContent, ExactOnTheWay, RightPoint, RightPointAnswer}
 use Rattle.screen.proofs.WholeFloats.{float_exact}
 use Rattle.screen.proofs.Evaluation.{most_middle, number_zero, step_product, step_sum, step_size, arc_height}
 use Rattle.screen.proofs.PointChecks.{in_time_lem, late_second, refused_point}
+use Rattle.question.specs.declared.refusal.Refusal.{Refusal}
+use Rattle.screen.specs.declared.ScreenPoint.{ScreenPoint}
 
 -- the largest height that a piece's bounds allow
 abbrev most_height : ℕ
@@ -130,48 +132,58 @@ module _ (s : SensedQuestion) (z : Sizes s) where
       way = exact_on_the_way (piece_at s (t ÷ 1)) (piece_at_sizes s z (t ÷ 1)) t h;
     }
 
--- ---- a drawing's content determines it
-drawing_of : Content → Drawing
-drawing_of (refused n) = Drawing.Refused n
-drawing_of (drawn []) = Drawing.Refused 0
-drawing_of (drawn (p ∷ [])) = Drawing.One p
-drawing_of (drawn (p ∷ q ∷ [])) = Drawing.Two p q
-drawing_of (drawn (p ∷ q ∷ r ∷ l)) = Drawing.Three p q r
+-- ---- an answer's content determines it
+drawing_of : List DrawnPiece → DrawnPiece → Drawing
+drawing_of [] other = Drawing.One other
+drawing_of (p ∷ []) other = Drawing.One p
+drawing_of (p ∷ q ∷ []) other = Drawing.Two p q
+drawing_of (p ∷ q ∷ r ∷ l) other = Drawing.Three p q r
 
-back : (r : Drawing) → drawing_of (content r) ≡ r
+-- any piece, for a list that is no drawing's
+first_piece : Drawing → DrawnPiece
+first_piece (Drawing.One p) = p
+first_piece (Drawing.Two p q) = p
+first_piece (Drawing.Three p q r) = p
+
+back : (d : Drawing) (other : DrawnPiece) → drawing_of (pieces_of d) other ≡ d
 unfolding drawing_of
-back (Drawing.Refused n) = refl
-back (Drawing.One p) = refl
-back (Drawing.Two p q) = refl
-back (Drawing.Three p q r) = refl
+back (Drawing.One p) other = refl
+back (Drawing.Two p q) other = refl
+back (Drawing.Three p q r) other = refl
 
-pub content_determines : (r r' : Drawing) → content r ≡ content r' → r ≡ r'
-content_determines r r' e = sym (back r) ∙ ap drawing_of e ∙ back r'
+pieces_determine : (v w : Drawing) → pieces_of v ≡ pieces_of w → v ≡ w
+pieces_determine v w e = let other = first_piece v in sym (back v other) ∙ ap (λ (l : List DrawnPiece). drawing_of l other) e ∙ back w other
+
+pub content_determines : (r r' : Result Drawing Refusal) → content r ≡ content r' → r ≡ r'
+content_determines (Ok v) (Ok w) e = ap {B = Result Drawing Refusal} Ok (pieces_determine v w cc)
+content_determines (Ok v) (Err why) e = absurd (let z : ◌≡◌ {A = ℕ} 0 1 = cc in omega arith)
+content_determines (Err why) (Ok v) e = absurd (let z : ◌≡◌ {A = ℕ} 0 1 = cc in omega arith)
+content_determines (Err why) (Err why') e = cc
 
 -- ---- the entries: each accepted question is drawn, and each second of it up to 600
 module _ (x : Encounter) (y : Settings) (z : Question) where
-  pub accepted_drawing : refusal x y z ≡ Checked.Accepted → RightContent (sensed_question x y z) (screen_drawing x y z)
+  pub accepted_drawing : refusal x y z ≡ Ok tt → RightContent (sensed_question x y z) (screen_drawing x y z)
   unfolding screen_drawing
   accepted_drawing e =
-      subst (λ (k : Checked). RightContent (sensed_question x y z) (checked_content k (drawn_pieces (sensed_question x y z)))) (sym e) (right_drawing (sensed_question x y z) (accepted_sizes x y z e))
+      subst (λ (k : Result ⊤ Refusal). RightContent (sensed_question x y z) (checked_content k (drawn_pieces (sensed_question x y z)))) (sym e) (right_drawing (sensed_question x y z) (accepted_sizes x y z e))
 
-  pub refused_drawing : (n : ℕ) → refusal x y z ≡ Checked.Refused n → screen_drawing x y z ≡ refused n
+  pub refused_drawing : (n : Refusal) → refusal x y z ≡ Err n → screen_drawing x y z ≡ Err n
   unfolding screen_drawing
-  refused_drawing n e = ap (λ (k : Checked). checked_content k (drawn_pieces (sensed_question x y z))) e
+  refused_drawing n e = ap (λ (k : Result ⊤ Refusal). checked_content k (drawn_pieces (sensed_question x y z))) e
 
   module _ (t : ℕ) where
-    abbrev answered : Checked → PointAnswer
+    abbrev answered : Result ⊤ Refusal → Result ScreenPoint Refusal
     answered k = checked_point k (point_at (sensed_question x y z) t)
 
-    by_check : (k : Checked) → point_refusal x y z t ≡ k → screen_point x y z t ≡ answered k
+    by_check : (k : Result ⊤ Refusal) → point_refusal x y z t ≡ k → screen_point x y z t ≡ answered k
     unfolding screen_point
     by_check k e = ap answered e
 
-    pub accepted_second : refusal x y z ≡ Checked.Accepted → t ≤ last_second → RightPointAnswer (sensed_question x y z) t (screen_point x y z t)
-    accepted_second e h = subst (RightPointAnswer (sensed_question x y z) t) (sym (by_check Checked.Accepted (in_time_lem x y z t e h))) (right_point (sensed_question x y z) (accepted_sizes x y z e) t h)
+    pub accepted_second : refusal x y z ≡ Ok tt → t ≤ last_second → RightPointAnswer (sensed_question x y z) t (screen_point x y z t)
+    accepted_second e h = subst (RightPointAnswer (sensed_question x y z) t) (sym (by_check (Ok tt) (in_time_lem x y z t e h))) (right_point (sensed_question x y z) (accepted_sizes x y z e) t h)
 
-    pub second_above : refusal x y z ≡ Checked.Accepted → last_second < t → screen_point x y z t ≡ PointAnswer.Refused 6
-    second_above e h = by_check (Checked.Refused 6) (late_second x y z t e h)
+    pub second_above : refusal x y z ≡ Ok tt → last_second < t → screen_point x y z t ≡ Err Refusal.TimesOutside
+    second_above e h = by_check (Err Refusal.TimesOutside) (late_second x y z t e h)
 
-    pub refused_second : (n : ℕ) → refusal x y z ≡ Checked.Refused n → screen_point x y z t ≡ PointAnswer.Refused n
-    refused_second n e = by_check (Checked.Refused n) (refused_point x y z t n e)
+    pub refused_second : (n : Refusal) → refusal x y z ≡ Err n → screen_point x y z t ≡ Err n
+    refused_second n e = by_check (Err n) (refused_point x y z t n e)

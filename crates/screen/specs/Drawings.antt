@@ -1,11 +1,10 @@
 -- "The lesson screen draws the lower path beside the verdict": a drawing is a list of pieces with their times, or a refusal.
-use Rattle.std.specs.Prelude.{cond, List, [], ◌∷◌, ℕ, pos}
+use Rattle.std.specs.Prelude.{cond, List, [], ◌∷◌, ℕ, pos, Err, Ok, Result, ⊤}
 use Rattle.instant.specs.Lowest.{lowest}
 use Rattle.path.specs.declared.SensedQuestion.{SensedQuestion}
 use Rattle.question.specs.declared.Encounter.{Encounter}
 use Rattle.question.specs.declared.Settings.{Settings}
 use Rattle.question.specs.declared.Question.{Question}
-use Rattle.question.specs.declared.Checked.{Checked}
 use Rattle.question.specs.Refusals.{is_number, refusal}
 use Rattle.sensed.specs.Sensed.{sensed_question}
 use Rattle.pieces.specs.declared.WholePiece.{WholePiece}
@@ -14,6 +13,7 @@ use Rattle.screen.specs.declared.Piece.{Piece}
 use Rattle.screen.specs.declared.DrawnPiece.{DrawnPiece}
 use Rattle.screen.specs.declared.Drawing.{Drawing}
 use Rattle.screen.specs.Floats.{float}
+use Rattle.question.specs.declared.refusal.Refusal.{Refusal}
 
 -- "a piece is a straight exactly if its t² has coefficient 0"; "its coefficients in t as 64-bit floats"
 abbrev pub float_piece : WholePiece → Piece
@@ -31,22 +31,22 @@ unfoldable pub drawn_pieces : SensedQuestion → List DrawnPiece
 unfolding height_after_delay
 drawn_pieces s = all_drawn (pieces s)
 
--- what a drawing says: a refusal's number, or the pieces in time's order
-pub data Content : Type 0 where
-  refused : ℕ → Content
-  drawn : List DrawnPiece → Content
+-- the pieces of a drawing, in time's order
+abbrev pub pieces_of : Drawing → List DrawnPiece
+pieces_of (Drawing.One p) = p ∷ []
+pieces_of (Drawing.Two p q) = p ∷ q ∷ []
+pieces_of (Drawing.Three p q r) = p ∷ q ∷ r ∷ []
 
-abbrev pub content : Drawing → Content
-content (Drawing.Refused n) = refused n
-content (Drawing.One p) = drawn (p ∷ [])
-content (Drawing.Two p q) = drawn (p ∷ q ∷ [])
-content (Drawing.Three p q r) = drawn (p ∷ q ∷ r ∷ [])
+-- what an answer says: its pieces, or the refusal
+abbrev pub content : Result Drawing Refusal → Result (List DrawnPiece) Refusal
+content (Ok drawing) = Ok (pieces_of drawing)
+content (Err why) = Err why
 
 -- "the other refusals are those of the entry for plain numbers"
-abbrev pub checked_content : Checked → List DrawnPiece → Content
-checked_content Checked.Accepted l = drawn l
-checked_content (Checked.Refused n) l = refused n
+abbrev pub checked_content : Result ⊤ Refusal → List DrawnPiece → Result (List DrawnPiece) Refusal
+checked_content (Ok _) l = Ok l
+checked_content (Err why) l = Err why
 
-unfoldable pub screen_drawing : Encounter → Settings → Question → Content
+unfoldable pub screen_drawing : Encounter → Settings → Question → Result (List DrawnPiece) Refusal
 unfolding refusal sensed_question drawn_pieces
 screen_drawing x y z = checked_content (refusal x y z) (drawn_pieces (sensed_question x y z))

@@ -1,5 +1,5 @@
 -- "A screen point holds a time and a height as two 64-bit floats. For each whole second from 0 to 600 the drawn height must equal the scaled path height."
-use Rattle.std.specs.Prelude.{[], ◌∷◌, ◌++◌, ℕ, leb, ℤ, pos, Float}
+use Rattle.std.specs.Prelude.{[], ◌∷◌, ◌++◌, ℕ, leb, ℤ, pos, Float, Err, Ok, Result, ⊤}
 use Rattle.std.specs.Float.{binary64}
 use Rattle.std.specs.Float.Ieee.{add, mul}
 use Rattle.instant.specs.Order.{◌÷◌}
@@ -7,14 +7,13 @@ use Rattle.path.specs.declared.SensedQuestion.{SensedQuestion}
 use Rattle.question.specs.declared.Encounter.{Encounter}
 use Rattle.question.specs.declared.Settings.{Settings}
 use Rattle.question.specs.declared.Question.{Question}
-use Rattle.question.specs.declared.Checked.{Checked}
 use Rattle.question.specs.Refusals.{check, first_refusal, plain_checks}
 use Rattle.sensed.specs.Sensed.{sensed_question}
 use Rattle.pieces.specs.Pieces.{height_after_delay, piece_at, last_second, piece_height}
 use Rattle.screen.specs.declared.Piece.{Piece}
 use Rattle.screen.specs.declared.ScreenPoint.{ScreenPoint}
-use Rattle.screen.specs.declared.PointAnswer.{PointAnswer}
 use Rattle.screen.specs.Floats.{float}
+use Rattle.question.specs.declared.refusal.Refusal.{Refusal}
 
 -- a piece at the time t, in floats
 unfoldable pub evaluated : Piece → Float → Float
@@ -31,13 +30,13 @@ unfolding drawn_height
 point_at s t = record { time = float (pos t); height = float (drawn_height s t) }
 
 -- "A second above 600 gets 6; the other refusals are those of the entry for plain numbers", which tests 6 last.
-unfoldable pub point_refusal : Encounter → Settings → Question → ℕ → Checked
-point_refusal x y z t = first_refusal (plain_checks x y z ++ (check 6 (leb t last_second) ∷ []))
+unfoldable pub point_refusal : Encounter → Settings → Question → ℕ → Result ⊤ Refusal
+point_refusal x y z t = first_refusal (plain_checks x y z ++ (check Refusal.TimesOutside (leb t last_second) ∷ []))
 
-abbrev pub checked_point : Checked → ScreenPoint → PointAnswer
-checked_point Checked.Accepted p = PointAnswer.Drawn p
-checked_point (Checked.Refused n) p = PointAnswer.Refused n
+abbrev pub checked_point : Result ⊤ Refusal → ScreenPoint → Result ScreenPoint Refusal
+checked_point (Ok _) p = Ok p
+checked_point (Err why) p = Err why
 
-unfoldable pub screen_point : Encounter → Settings → Question → ℕ → PointAnswer
+unfoldable pub screen_point : Encounter → Settings → Question → ℕ → Result ScreenPoint Refusal
 unfolding sensed_question point_at point_refusal
 screen_point x y z t = checked_point (point_refusal x y z t) (point_at (sensed_question x y z) t)

@@ -1,6 +1,6 @@
 -- What it is for a drawing and a screen point to be right: "the drawn height must equal the scaled path height, since every operation on the way is exact".
 -- The scaled path height at a second t is 2 × a × f(t): `lower_path s t 1` (`path`, specs/Paths.antt).
-use Rattle.std.specs.Prelude.{◌≡◌, List, [], ◌∷◌, ◌↔◌, ℕ, ◌^◌, ◌<◌, ℤ, pos, nat_abs, ◌+ℤ◌, ◌*ℤ◌, Float}
+use Rattle.std.specs.Prelude.{◌≡◌, List, [], ◌∷◌, ◌↔◌, ℕ, ◌^◌, ◌<◌, ℤ, pos, nat_abs, ◌+ℤ◌, ◌*ℤ◌, Float, Err, Ok, Result}
 use Rattle.std.specs.Float.{binary64}
 use Rattle.std.specs.Float.Ieee.{add, mul}
 use Rattle.instant.specs.Order.{◌÷◌}
@@ -12,9 +12,9 @@ use Rattle.pieces.specs.RightPieces.{RightPieces}
 use Rattle.screen.specs.declared.Piece.{Piece}
 use Rattle.screen.specs.declared.DrawnPiece.{DrawnPiece}
 use Rattle.screen.specs.declared.ScreenPoint.{ScreenPoint}
-use Rattle.screen.specs.declared.PointAnswer.{PointAnswer}
 use Rattle.screen.specs.Floats.{float, Exactly}
-use Rattle.screen.specs.Drawings.{float_piece, all_drawn, Content, refused, drawn}
+use Rattle.screen.specs.Drawings.{float_piece, all_drawn}
+use Rattle.question.specs.declared.refusal.Refusal.{Refusal}
 
 -- "a piece is a straight exactly if its t² has coefficient 0"
 abbrev pub IsStraight : Piece → Type 0
@@ -39,9 +39,9 @@ pub record RightDrawing (s : SensedQuestion) (l : List DrawnPiece) : Type 0 wher
   pub right : RightPieces s whole
   pub exact : AllExact whole
 
-abbrev pub RightContent : SensedQuestion → Content → Type 0
-RightContent s (drawn l) = RightDrawing s l
-RightContent s (refused n) = ⊥
+abbrev pub RightContent : SensedQuestion → (Result (List DrawnPiece) Refusal) → Type 0
+RightContent s (Ok l) = RightDrawing s l
+RightContent s (Err n) = ⊥
 
 -- "every operation on the way is exact": each product and each sum of a piece at the second t
 abbrev pub ExactOnTheWay : WholePiece → Piece → ℤ → Float → Type 0
@@ -62,6 +62,6 @@ pub record RightPoint (s : SensedQuestion) (t : ℕ) (p : ScreenPoint) : Type 0 
   pub small : nat_abs (lower_path s t 1) < 2 ^ 53
   pub way : let held = piece_at s (t ÷ 1) in ExactOnTheWay held (float_piece held) (pos t) (float (pos t))
 
-abbrev pub RightPointAnswer : SensedQuestion → ℕ → PointAnswer → Type 0
-RightPointAnswer s t (PointAnswer.Drawn p) = RightPoint s t p
-RightPointAnswer s t (PointAnswer.Refused n) = ⊥
+abbrev pub RightPointAnswer : SensedQuestion → ℕ → Result ScreenPoint Refusal → Type 0
+RightPointAnswer s t (Ok p) = RightPoint s t p
+RightPointAnswer s t (Err n) = ⊥

@@ -1,18 +1,17 @@
 // The path on the screen: the pieces of the lower path with 64-bit floats, and the point of each whole second. `specs/` says what they are.
 #![tactic(auto)]
 
-ghost use Rattle.std.specs.Prelude.{◌≡◌, ◌≤◌};
-ghost use Rattle.path.specs.inner.Sizes.{Sizes};
+ghost use Rattle.std.specs.Prelude.{◌≡◌, ◌≤◌, IfOk, IfErr, Err};
 ghost use Rattle.pieces.specs.Pieces.{last_second};
 ghost use Rattle.pieces.specs.inner.PieceSizes.{PieceSizes};
-ghost use Rattle.screen.specs.Drawings.{float_piece, drawn_piece, content, drawn, drawn_pieces, screen_drawing};
+ghost use Rattle.screen.specs.Drawings.{float_piece, drawn_piece, pieces_of, content, drawn_pieces, screen_drawing};
 ghost use Rattle.screen.specs.Points.{evaluated, point_at, point_refusal, screen_point};
 
 use instant::{Time, lowest_terms};
-use path::SensedQuestion;
+use path::SizedQuestion;
 use pieces::{WholePiece, arc_piece, delay_piece, last_piece, missing_speed, piece_at};
-use question::{Checked, Encounter, Question, Settings};
-use refusals::check_question;
+use question::{AcceptedQuestion, Encounter, Question, Refusal, Settings};
+use refusals::accept;
 use sensed::sensed_question;
 
 // The last second that is drawn.
@@ -32,10 +31,9 @@ pub struct DrawnPiece {
     pub piece: Piece,
 }
 
-// One to three pieces in time's order, or the refusal's number.
+// One to three pieces in time's order.
 #[derive(Clone, Copy)]
 pub enum Drawing {
-    Refused(u8),
     One(DrawnPiece),
     Two(DrawnPiece, DrawnPiece),
     Three(DrawnPiece, DrawnPiece, DrawnPiece),
@@ -45,12 +43,6 @@ pub enum Drawing {
 pub struct ScreenPoint {
     pub time: f64,
     pub height: f64,
-}
-
-#[derive(Clone, Copy)]
-pub enum PointAnswer {
-    Refused(u8),
-    Drawn(ScreenPoint),
 }
 
 // Every whole number of a piece is below 2⁵³, so its cast is exact.
@@ -78,32 +70,34 @@ fn drawn_piece(p: WholePiece) -> DrawnPiece
 }
 
 // The pieces that have a length.
-fn drawing_of(s: SensedQuestion) -> Drawing
-    requires { Sizes s }
-    ensures { content result ≡ drawn (drawn_pieces s) }
+fn drawing_of(s: SizedQuestion) -> Drawing
+    ensures { pieces_of result ≡ drawn_pieces s.sensed }
 {
     let last = drawn_piece(last_piece(s));
     if missing_speed(s) == 0 {
-        if s.delay == 0 {
+        if s.sensed.delay == 0 {
             return Drawing::One(last);
         }
         return Drawing::Two(drawn_piece(delay_piece(s)), last);
     }
     let arc = drawn_piece(arc_piece(s));
-    if s.delay == 0 {
+    if s.sensed.delay == 0 {
         return Drawing::Two(arc, last);
     }
     Drawing::Three(drawn_piece(delay_piece(s)), arc, last)
 }
 
 // The entry for a drawing: any 64-bit values.
-pub fn screen_drawing(encounter: Encounter, settings: Settings, question: Question) -> Drawing
+#[tactic(auto, using(sensed::proofs::AcceptedSizes::accepted_sizes), unfolding(crate::specs::Drawings::screen_drawing))]
+pub fn screen_drawing(
+    encounter: Encounter,
+    settings: Settings,
+    question: Question,
+) -> Result<Drawing, Refusal>
     ensures { content result ≡ screen_drawing encounter settings question }
 {
-    match check_question(encounter, settings, question) {
-        Checked::Accepted => drawing_of(sensed_question(encounter, settings, question)),
-        Checked::Refused(number) => Drawing::Refused(number),
-    }
+    let asked = accept(encounter, settings, question)?;
+    Ok(drawing_of(sensed_question(asked)))
 }
 
 // The constant coefficient is added last: it is +0 where it is 0, so no −0 comes out.
@@ -116,10 +110,9 @@ fn evaluate(piece: Piece, t: f64) -> f64
     }
 }
 
-fn point_at(s: SensedQuestion, second: u64) -> ScreenPoint
-    requires sizes { Sizes s }
-    requires second_le_last_second { second ≤ last_second }
-    ensures { result ≡ point_at s second }
+fn point_at(s: SizedQuestion, second: u64) -> ScreenPoint
+    requires { second ≤ last_second }
+    ensures { result ≡ point_at s.sensed second }
 {
     let piece = float_piece(piece_at(s, second));
     let time = second as f64;
@@ -130,35 +123,34 @@ fn point_at(s: SensedQuestion, second: u64) -> ScreenPoint
 }
 
 // A second above 600 gets 6, after the refusals of the entry for plain numbers.
-fn check_point(encounter: Encounter, settings: Settings, question: Question, second: u64) -> Checked
-    ensures { result ≡ point_refusal encounter settings question second }
+#[tactic(auto, using(crate::proofs::PointChecks::in_time_lem, crate::proofs::PointChecks::late_second, crate::proofs::PointChecks::refused_point))]
+fn accept_second(
+    encounter: Encounter,
+    settings: Settings,
+    question: Question,
+    second: u64,
+) -> Result<AcceptedQuestion, Refusal>
+    ensures in_time { IfOk result (λ asked. second ≤ last_second) }
+    ensures same { IfOk result (λ asked. (asked.encounter ≡ encounter) × (asked.settings ≡ settings) × (asked.question ≡ question)) }
+    ensures refused { IfErr result (λ why. point_refusal encounter settings question second ≡ Err why) }
 {
-    match check_question(encounter, settings, question) {
-        Checked::Accepted => {
-            if second <= LAST_SECOND {
-                Checked::Accepted
-            } else {
-                Checked::Refused(6)
-            }
-        }
-        Checked::Refused(number) => Checked::Refused(number),
+    let asked = accept(encounter, settings, question)?;
+    if LAST_SECOND < second {
+        return Err(Refusal::TimesOutside);
     }
+    Ok(asked)
 }
 
 // The entry for a screen point: any 64-bit values.
+#[tactic(auto, using(sensed::proofs::AcceptedSizes::accepted_sizes, crate::proofs::PointChecks::in_time_lem), unfolding(crate::specs::Points::screen_point))]
 pub fn screen_point(
     encounter: Encounter,
     settings: Settings,
     question: Question,
     second: u64,
-) -> PointAnswer
+) -> Result<ScreenPoint, Refusal>
     ensures { result ≡ screen_point encounter settings question second }
 {
-    match check_point(encounter, settings, question, second) {
-        Checked::Accepted => {
-            let s = sensed_question(encounter, settings, question);
-            PointAnswer::Drawn(point_at(s, second))
-        }
-        Checked::Refused(number) => PointAnswer::Refused(number),
-    }
+    let asked = accept_second(encounter, settings, question, second)?;
+    Ok(point_at(sensed_question(asked), second))
 }

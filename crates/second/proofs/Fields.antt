@@ -19,7 +19,6 @@ use Rattle.window.proofs.Fields.{most_distance, distance_size, read_radius}
 use Rattle.conflict.proofs.Fields.{numbers}
 use Rattle.flight.specs.inner.Clamped.{most_flight_speed, most_flight_height, most_gained}
 use Rattle.second.specs.declared.Motion.{Motion}
-use Rattle.second.specs.declared.Approach.{Approach}
 use Rattle.second.specs.inner.SecondSizes.{MotionSizes, ApproachSizes}
 
 -- ---- a question
@@ -45,19 +44,15 @@ module _ (motion : Motion) (z : MotionSizes motion) where
   read_acceleration = bounded_absolute motion.acceleration max_flight_acceleration z.acceleration_hi
 
 -- ---- what is to be reached
-module _ (to : Approach) (z : ApproachSizes to) where
-  abbrev pub read_approach_edge : Reading to.edge
-  read_approach_edge = bounded_absolute to.edge most_gained z.edge_hi
+module _ (edge speed acceleration : ℤ) (z : ApproachSizes edge speed acceleration) where
+  abbrev pub read_approach_edge : Reading edge
+  read_approach_edge = bounded_absolute edge most_gained z.edge_hi
 
-  abbrev pub read_approach_speed : Reading to.speed
-  read_approach_speed = bounded_absolute to.speed most_flight_speed z.speed_hi
+  abbrev pub read_approach_speed : Reading speed
+  read_approach_speed = bounded_absolute speed most_flight_speed z.speed_hi
 
-  abbrev pub read_approach_acceleration : Reading to.acceleration
-  read_approach_acceleration = bounded_absolute to.acceleration max_flight_acceleration z.acceleration_hi
-
--- an approach is its three numbers
-pub same_approach : {x x' v v' g g' : ℤ} → x ≡ x' → v ≡ v' → g ≡ g' → ◌≡◌ {A = Approach} (record { edge = x; speed = v; acceleration = g }) (record { edge = x'; speed = v'; acceleration = g' })
-same_approach h i j = cc
+  abbrev pub read_approach_acceleration : Reading acceleration
+  read_approach_acceleration = bounded_absolute acceleration max_flight_acceleration z.acceleration_hi
 
 -- ---- tests that are joined, and a call's answer to one
 abbrev pub known : {b t : Bool} → b ≡ t → Plain b

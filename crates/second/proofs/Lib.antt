@@ -1,4 +1,3 @@
 pub mod Fields
-pub mod NearSeconds
 pub mod Clamping
-pub mod ApproachSizes
+pub mod ClampedEdges

@@ -1,4 +1,5 @@
 -- An accepted question has the sizes that the paths and the code ask for. Assumes nothing.
+use Rattle.std.specs.Prelude.{None, Ok, Some}
 use mathlib.Core.Path.{◌≡◌, refl, subst}
 use mathlib.Core.Bool.{Bool, true, false, cond, ◌||◌}
 use mathlib.Core.List.{[], ◌∷◌}
@@ -15,12 +16,10 @@ use Rattle.integers.proofs.Laws.{≤ℤ_trans, max0_le, max0_ge}
 use Rattle.advisory.specs.declared.Sense.{Sense}
 use Rattle.advisory.specs.declared.Sense.TheVariants.{Climb, Descend}
 use Rattle.advisory.specs.Sign.{sensed}
-use Rattle.path.specs.declared.Limit.TheVariants.{Unlimited, Upto}
 use Rattle.path.specs.inner.Sizes.{LimitSize, max_speed_difference, Sizes, UpperSizes}
 use Rattle.question.specs.declared.Encounter.{Encounter}
 use Rattle.question.specs.declared.Settings.{Settings}
 use Rattle.question.specs.declared.Question.{Question}
-use Rattle.question.specs.declared.Checked.{Checked}
 use Rattle.question.specs.Refusals.{is_number, sense_of, two_sided, refusal}
 use Rattle.question.proofs.WithinLimits.{Between, between, or_else, within_limits, upper_limits}
 use Rattle.sensed.specs.Sensed.{limit_of, sensed_question}
@@ -54,14 +53,14 @@ at_least k z h = nat≤ {m = k} {n = max0 z} (≤ℤ_trans h (max0_ge z))
 limit_size : (l : ℤ) → T (limit_within l || is_number no_limit l) → LimitSize (limit_of l)
 limit_size l t = go (is_number no_limit l) refl
   where
-    go : (b : Bool) → is_number no_limit l ≡ b → LimitSize (cond b Unlimited (Upto (max0 l)))
+    go : (b : Bool) → is_number no_limit l ≡ b → LimitSize (cond b None (Some (max0 l)))
     go true e = tt
     go false e = ⊎_elim
         (λ h. max0_le l max_limit (between (pos 0) (pos max_limit) l h).to)
         (λ h. absurd (subst T e h))
         (or_else (limit_within l) (is_number no_limit l) t)
 
-module _ (x : Encounter) (y : Settings) (z : Question) (e : refusal x y z ≡ Checked.Accepted) where
+module _ (x : Encounter) (y : Settings) (z : Question) (e : refusal x y z ≡ Ok tt) where
   pub accepted_sizes : Sizes (sensed_question x y z)
   unfolding sensed_question
   accepted_sizes =

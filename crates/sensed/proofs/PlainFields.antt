@@ -1,4 +1,5 @@
 -- The fields of an accepted question as `search machine` reads them: each is within its limits, so it fits 64 bits. Assumes nothing.
+use Rattle.std.specs.Prelude.{Ok}
 use mathlib.Core.Path.{◌≡◌}
 use Prim.Native.Nat.{ℕ, ◌^◌}
 use lib.Dec.{T, ltb}
@@ -16,7 +17,6 @@ use Rattle.path.specs.inner.Sizes.{max_speed_difference}
 use Rattle.question.specs.declared.Encounter.{Encounter}
 use Rattle.question.specs.declared.Settings.{Settings}
 use Rattle.question.specs.declared.Question.{Question}
-use Rattle.question.specs.declared.Checked.{Checked}
 use Rattle.sensed.specs.declared.Motion.{Motion}
 use Rattle.question.specs.Refusals.{sense_of, refusal}
 use Rattle.sensed.specs.Sensed.{sensed_motion}
@@ -42,7 +42,7 @@ pub record Exact (x : Encounter) (y : Settings) (z : Question) : Type 0 where
   pub delay : to_z w64 (of_z w64 z.delay) ≡ z.delay
   pub limit : to_z w64 (of_z w64 z.limit) ≡ z.limit
 
-module _ (x : Encounter) (y : Settings) (z : Question) (e : refusal x y z ≡ Checked.Accepted) where
+module _ (x : Encounter) (y : Settings) (z : Question) (e : refusal x y z ≡ Ok tt) where
   abbrev pub read_height : Reading x.height
   read_height = let b = (within_limits x y z e).height in bounded x.height max_height b.from b.to
 
@@ -82,7 +82,7 @@ pub record ExactMotion (m : Motion) : Type 0 where
   pub target : to_z w64 (of_z w64 m.target) ≡ m.target
   pub upper : to_z w64 (of_z w64 m.upper_target) ≡ m.upper_target
 
-pub exact_motion : (x : Encounter) (y : Settings) (z : Question) → refusal x y z ≡ Checked.Accepted → ExactMotion (sensed_motion x z)
+pub exact_motion : (x : Encounter) (y : Settings) (z : Question) → refusal x y z ≡ Ok tt → ExactMotion (sensed_motion x z)
 exact_motion x y z e =
     let l = within_limits x y z e in
     let w = sense_of z in

@@ -1,10 +1,8 @@
 -- A question of plain numbers as a sensed question: "Write u = w × (v − vi), q = w × (target − vi)"; the intruder's height is w × h.
-use Rattle.std.specs.Prelude.{cond, ℤ, ◌-ℤ◌}
+use Rattle.std.specs.Prelude.{ℕ, cond, ℤ, ◌-ℤ◌, None, Option, Some}
 use Rattle.limits.specs.Limits.{no_limit}
 use Rattle.integers.specs.Extremes.{max0}
 use Rattle.advisory.specs.Sign.{sensed}
-use Rattle.path.specs.declared.Limit.{Limit}
-use Rattle.path.specs.declared.Limit.TheVariants.{Unlimited, Upto}
 use Rattle.path.specs.declared.SensedQuestion.{SensedQuestion}
 use Rattle.question.specs.declared.Encounter.{Encounter}
 use Rattle.question.specs.declared.Settings.{Settings}
@@ -13,8 +11,8 @@ use Rattle.sensed.specs.declared.Motion.{Motion}
 use Rattle.question.specs.Refusals.{is_number, sense_of}
 
 -- "Limit 65,535 means none"; every other number is the limit itself
-abbrev pub limit_of : ℤ → Limit
-limit_of l = cond (is_number no_limit l) Unlimited (Upto (max0 l))
+abbrev pub limit_of : ℤ → Option ℕ
+limit_of l = cond (is_number no_limit l) None (Some (max0 l))
 
 -- w × h, u, q, and w × (upper target − vi)
 abbrev pub sensed_motion : Encounter → Question → Motion

@@ -3,14 +3,12 @@
 
 ghost use Rattle.std.specs.Prelude.{◌≡◌};
 ghost use Rattle.advisory.specs.Sign.{sign};
-ghost use Rattle.question.specs.declared.Checked.TheVariants.{Accepted};
-ghost use Rattle.question.specs.Refusals.{refusal};
 ghost use Rattle.sensed.specs.Sensed.{limit_of, sensed_motion, sensed_question};
 
 use advisory::Sense;
 use limits::NO_LIMIT;
-use path::{Limit, SensedQuestion};
-use question::{Encounter, Question, Settings, sense_of};
+use path::{SensedQuestion, SizedQuestion};
+use question::{AcceptedQuestion, sense_of};
 use window::positive_part;
 
 // The intruder's sensed height w × h, and the sensed speeds u, q and that of the upper target.
@@ -32,44 +30,39 @@ pub fn sign_of(sense: Sense) -> i64
     }
 }
 
-fn limit_of(limit: i64) -> Limit
+fn limit_of(limit: i64) -> Option<u64>
     ensures { result ≡ limit_of limit }
 {
-    if (NO_LIMIT <= limit) & (limit <= NO_LIMIT) {
-        return Limit::Unlimited;
+    if limit == NO_LIMIT {
+        return None;
     }
-    Limit::Upto(positive_part(limit))
+    Some(positive_part(limit))
 }
 
-// The intruder's height and the speeds of an accepted question, in the sense and relative to the intruder's speed.
-fn sensed_motion(encounter: Encounter, settings: Settings, question: Question) -> Motion
-    requires { refusal encounter settings question ≡ Accepted }
-    ensures { result ≡ sensed_motion encounter question }
+// The intruder's height and the speeds, in the sense and relative to the intruder's speed.
+fn sensed_motion(asked: AcceptedQuestion) -> Motion
+    ensures { result ≡ sensed_motion asked.encounter asked.question }
 {
-    let height = encounter.height;
-    let own = encounter.speed;
+    let encounter = asked.encounter;
+    let question = asked.question;
     let intruder = encounter.intruder_speed;
-    let target = question.target;
-    let upper = question.upper_target;
     let w = sign_of(sense_of(question));
     Motion {
-        level: w * height,
-        speed: w * (own - intruder),
-        target: w * (target - intruder),
-        upper_target: w * (upper - intruder),
+        level: w * encounter.height,
+        speed: w * (encounter.speed - intruder),
+        target: w * (question.target - intruder),
+        upper_target: w * (question.upper_target - intruder),
     }
 }
 
 // An accepted question, with heights and speeds in its sense.
-pub fn sensed_question(
-    encounter: Encounter,
-    settings: Settings,
-    question: Question,
-) -> SensedQuestion
-    requires { refusal encounter settings question ≡ Accepted }
-    ensures { result ≡ sensed_question encounter settings question }
+fn in_sense(asked: AcceptedQuestion) -> SensedQuestion
+    ensures { result ≡ sensed_question asked.encounter asked.settings asked.question }
 {
-    let motion = sensed_motion(encounter, settings, question);
+    let motion = sensed_motion(asked);
+    let encounter = asked.encounter;
+    let settings = asked.settings;
+    let question = asked.question;
     SensedQuestion {
         distance: encounter.distance,
         closing_speed: positive_part(encounter.closing_speed),
@@ -84,5 +77,14 @@ pub fn sensed_question(
         upper_target: motion.upper_target,
         upper_strength: question.upper_strength as u64,
         limit: limit_of(question.limit),
+    }
+}
+
+// The same, which the limits keep small.
+pub fn sensed_question(asked: AcceptedQuestion) -> SizedQuestion
+    ensures { result.sensed ≡ sensed_question asked.encounter asked.settings asked.question }
+{
+    SizedQuestion {
+        sensed: in_sense(asked),
     }
 }

@@ -1,22 +1,18 @@
 -- How long an answer can be: a reply has at most 13 bytes for 4 of its record, so the answer of an accepted sheet has at most 26,624. Assumes nothing.
+use Rattle.std.specs.Prelude.{Err, None, Ok, Option, Result, Some, ⊤, is_some}
 use mathlib.Core.Path.{◌≡◌, refl}
 use mathlib.Core.Bool.{Bool, true, false, cond}
-use mathlib.Core.List.{List, [], ◌∷◌, ◌++◌}
+use mathlib.Core.List.{List, [], ◌∷◌}
 use Prim.Native.Nat.{ℕ, zero, suc, ◌+◌, ◌*◌, ◌≤◌}
 use native.Mathlib.Omega.{arith}
 use lib.IntN.{ℤ, pos}
 use lib.ListN.{length, length-append}
-use Rattle.advisory.specs.declared.Advised.{Advised}
 use Rattle.advisory.specs.Advised.{advised_of}
 use Rattle.question.specs.declared.Encounter.{Encounter}
 use Rattle.question.specs.declared.Settings.{Settings}
 use Rattle.question.specs.declared.Question.{Question}
-use Rattle.question.specs.declared.Checked.{Checked}
-use Rattle.question.specs.declared.Checked.TheVariants.{Accepted, Refused}
 use Rattle.verdict.specs.declared.Verdict.{Verdict}
 use Rattle.verdict.specs.declared.Verdict.TheVariants.{Clear, Conflict, Conflicts}
-use Rattle.judge.specs.declared.Answer.{Answer}
-use Rattle.coded.specs.declared.CodedQuestion.{CodedQuestion}
 use Rattle.question.specs.Refusals.{encounter_within, puck_within, delay_acceleration_within, refusal, two_sided}
 use Rattle.sensed.specs.Sensed.{sensed_question}
 use Rattle.coded.specs.Coded.{asked, instructed, maintainable, coded_question}
@@ -25,33 +21,33 @@ use Rattle.judge.specs.Answers.{checked_answer, answer}
 use Rattle.judge.specs.Demand3.{RightOneSided}
 use Rattle.judge.proofs.Demand3.{one_sided_lem}
 use Rattle.record.specs.declared.Kind.{Kind}
-use Rattle.record.specs.Kinds.{kind_of, body_length, known}
+use Rattle.record.specs.Kinds.{kind_of, body_length, body_after}
 use Rattle.record.specs.Numbers.{byte_at, short_at, number_at}
-use Rattle.record.specs.Records.{encounter_in, question_in, record_of, records_after}
+use Rattle.record.specs.Records.{encounter_in, question_in, record_of, record_before, records_after}
 use Rattle.record.specs.SheetCheck.{fault_after, sheet_check}
-use Rattle.record.proofs.Scan.{not_refused, accepted_sheet}
-use Rattle.reply.specs.declared.Reply.TheVariants.{Answered}
+use Rattle.record.proofs.Scan.{accepted_sheet}
 use Rattle.reply.specs.AnswerBytes.{reply_bytes}
-use Rattle.answering.specs.declared.LastEncounter.{LastEncounter}
-use Rattle.answering.specs.declared.LastEncounter.TheVariants.{Absent, Present}
 use Rattle.answering.specs.declared.State.{State}
 use Rattle.answering.specs.States.{starting_state, with_puck, with_delay_acceleration, state_after}
 use Rattle.answering.specs.Replies.{settings_reply, asked_answer, coded_answer, free_answer, reply_to}
 use Rattle.sheet.specs.WholeSheet.{answers_from, sheet_answer}
+use Rattle.advisory.specs.declared.CodeError.{CodeError}
+use Rattle.advisory.specs.declared.Instruction.{Instruction}
+use Rattle.question.specs.declared.refusal.Refusal.{Refusal}
 
-abbrev size : Answer → ℕ
-size a = length (reply_bytes (Answered a))
+abbrev size : Result Verdict Refusal → ℕ
+size a = length (reply_bytes (Some a))
 
 -- ---- any answer has at most 25 bytes
-answer_size : (a : Answer) → size a ≤ 25
-answer_size (Answer.Judged (Clear sides)) = omega arith
-answer_size (Answer.Judged (Conflict t)) = omega arith
-answer_size (Answer.Judged (Conflicts t u)) = omega arith
-answer_size (Answer.Refused n) = omega arith
+answer_size : (a : Result Verdict Refusal) → size a ≤ 25
+answer_size (Ok (Clear sides)) = omega arith
+answer_size (Ok (Conflict t)) = omega arith
+answer_size (Ok (Conflicts t u)) = omega arith
+answer_size (Err n) = omega arith
 
 -- ---- a question by code is one-sided, and so its answer has one time at most: 13 bytes
 module _ (x : Encounter) (y : Settings) (z : Question) where
-  verdict_size : (v : Verdict) → RightOneSided (sensed_question x y z) v → size (Answer.Judged v) ≤ 13
+  verdict_size : (v : Verdict) → RightOneSided (sensed_question x y z) v → size (Ok v) ≤ 13
   verdict_size (Clear sides) right = omega arith
   verdict_size (Conflict t) right = omega arith
   verdict_size (Conflicts t u) right = absurd right
@@ -60,52 +56,51 @@ module _ (x : Encounter) (y : Settings) (z : Question) where
   unfolding answer
   one_sided_size e = go (refusal x y z) refl
     where
-      go : (k : Checked) → refusal x y z ≡ k → size (checked_answer k (verdict z (sensed_question x y z))) ≤ 13
-      go Checked.Accepted p = verdict_size (verdict z (sensed_question x y z)) (one_sided_lem x y z p e)
-      go (Checked.Refused n) p = omega arith
+      go : (k : Result ⊤ Refusal) → refusal x y z ≡ k → size (checked_answer k (verdict z (sensed_question x y z))) ≤ 13
+      go (Ok _) p = verdict_size (verdict z (sensed_question x y z)) (one_sided_lem x y z p e)
+      go (Err n) p = omega arith
 
-asked_size : (x : Encounter) (y : Settings) (code : ℕ) (a : Advised) (v limit : ℤ) → size (asked_answer x y (asked code a v limit)) ≤ 13
-asked_size x y code (Advised.Judged i) v limit = go (maintainable code v)
+asked_size : (x : Encounter) (y : Settings) (code : ℕ) (a : Result Instruction CodeError) (v limit : ℤ) → size (asked_answer x y (asked code a v limit)) ≤ 13
+asked_size x y code (Ok i) v limit = go (maintainable code v)
   where
-    go : (may : Bool) → size (asked_answer x y (cond may (CodedQuestion.Asked (instructed i v limit)) (CodedQuestion.Refused 17))) ≤ 13
+    go : (may : Bool) → size (asked_answer x y (cond may (Ok (instructed i v limit)) (Err Refusal.NeverIssued))) ≤ 13
     go true = one_sided_size x y (instructed i v limit) refl
     go false = omega arith
-asked_size x y code Advised.NotJudged v limit = omega arith
-asked_size x y code Advised.Unknown v limit = omega arith
+asked_size x y code (Err CodeError.NotJudged) v limit = omega arith
+asked_size x y code (Err CodeError.Unknown) v limit = omega arith
 
-coded_size : (met : LastEncounter) (y : Settings) (code : ℕ) (limit : ℤ) → size (coded_answer met y code limit) ≤ 13
+coded_size : (met : Option Encounter) (y : Settings) (code : ℕ) (limit : ℤ) → size (coded_answer met y code limit) ≤ 13
 unfolding coded_answer coded_question
-coded_size Absent y code limit = omega arith
-coded_size (Present x) y code limit = asked_size x y code (advised_of code) x.speed limit
+coded_size None y code limit = omega arith
+coded_size (Some x) y code limit = asked_size x y code (advised_of code) x.speed limit
 
-settings_size : (b : Bool) (n : ℕ) → length (reply_bytes (settings_reply b n)) ≤ 2
+settings_size : (b : Bool) (n : Refusal) → length (reply_bytes (settings_reply b n)) ≤ 2
 settings_size true n = omega arith
 settings_size false n = omega arith
 
 -- ---- a record's reply, and the bytes of the record
 reply_size : (st : State) (kind : Kind) (body : List ℕ) → 4 * length (reply_bytes (reply_to st (record_of kind body))) ≤ 13 + 13 * body_length kind
 unfolding reply_to
-reply_size st Kind.Encounter body = omega (arith, settings_size (encounter_within (encounter_in body)) 1)
-reply_size st Kind.Puck body = omega (arith, settings_size (puck_within (with_puck st.settings (number_at body 0) (number_at body 4))) 2)
-reply_size st Kind.DelayAcceleration body = omega (arith, settings_size (delay_acceleration_within (with_delay_acceleration st.settings (number_at body 0))) 3)
+reply_size st Kind.Encounter body = omega (arith, settings_size (encounter_within (encounter_in body)) Refusal.EncounterOutside)
+reply_size st Kind.Puck body = omega (arith, settings_size (puck_within (with_puck st.settings (number_at body 0) (number_at body 4))) Refusal.PuckOutside)
+reply_size st Kind.DelayAcceleration body = omega (arith, settings_size (delay_acceleration_within (with_delay_acceleration st.settings (number_at body 0))) Refusal.DelayAccelerationOutside)
 reply_size st Kind.Coded body = omega (arith, coded_size st.encounter st.settings (byte_at body 0) (pos (short_at body 1)))
 reply_size st Kind.Free body = omega (arith, answer_size (free_answer st.encounter st.settings (question_in body)))
-reply_size st Kind.Unknown body = omega arith
 
 -- ---- all the records after `passed` bytes of a body
-answers_size : (st : State) (passed : ℕ) (l : List ℕ) → fault_after passed l ≡ Accepted → 4 * length (answers_from st (records_after passed l)) + 13 * passed ≤ 13 * length l
+answers_size : (st : State) (passed : ℕ) (l : List ℕ) → fault_after passed l ≡ Ok tt → 4 * length (answers_from st (records_after passed l)) + 13 * passed ≤ 13 * length l
 unfolding fault_after records_after answers_from
 answers_size st zero [] e = omega arith
-answers_size st (suc n) [] e = not_refused e
+answers_size st (suc n) [] e = absurd (cc)
 answers_size st (suc n) (b ∷ l) e = omega (arith, answers_size st n l e)
-answers_size st zero (b ∷ l) e = go (known (kind_of b)) (answers_size (state_after st (record_of (kind_of b) l)) (body_length (kind_of b)) l) e
+answers_size st zero (b ∷ l) e = go (kind_of b) (λ st' n. answers_size st' n l) e
   where
-    go : (k : Bool) → (fault_after (body_length (kind_of b)) l ≡ Accepted → 4 * length (answers_from (state_after st (record_of (kind_of b) l)) (records_after (body_length (kind_of b)) l)) + 13 * body_length (kind_of b) ≤ 13 * length l)
-        → cond k (fault_after (body_length (kind_of b)) l) (Refused 11) ≡ Accepted
-        → 4 * length (reply_bytes (reply_to st (record_of (kind_of b) l)) ++ answers_from (state_after st (record_of (kind_of b) l)) (records_after (body_length (kind_of b)) l)) + 13 * 0 ≤ 13 * suc (length l)
-    go false f h = not_refused h
-    go true f h = simp length-append (omega (arith, reply_size st (kind_of b) l, f h))
+    go : (k : Option Kind) → ((st' : State) (n : ℕ) → fault_after n l ≡ Ok tt → 4 * length (answers_from st' (records_after n l)) + 13 * n ≤ 13 * length l)
+        → cond (is_some k) (fault_after (body_after k) l) (Err Refusal.KindUnknown) ≡ Ok tt
+        → 4 * length (answers_from st (record_before k l (records_after (body_after k) l))) + 13 * 0 ≤ 13 * suc (length l)
+    go None f h = absurd (cc)
+    go (Some kind) f h = simp length-append (omega (arith, reply_size st kind l, f (state_after st (record_of kind l)) (body_length kind) h))
 
 -- the answer of an accepted sheet is shorter than the program's area of 65,536 bytes
-pub sheet_answer_short : (s : List ℕ) → sheet_check s ≡ Accepted → length (sheet_answer s) ≤ 26624
+pub sheet_answer_short : (s : List ℕ) → sheet_check s ≡ Ok tt → length (sheet_answer s) ≤ 26624
 sheet_answer_short s e = let a = accepted_sheet s e in omega (arith, answers_size starting_state 0 s a.1, a.0)

@@ -1,8 +1,8 @@
 -- Document 01's whole example: its sheet is accepted with the answer that it prints. The question is M5, which the judge's table answers. Assumes nothing.
+use Rattle.std.specs.Prelude.{Ok}
 use mathlib.Core.Path.{◌≡◌, refl, ap, ◌∙◌}
 use mathlib.Core.List.{List, [], append-nil}
 use lib.ListN.{get_or}
-use Rattle.question.specs.declared.Checked.TheVariants.{Accepted}
 use Rattle.judge.specs.Answers.{AnswerRecord, answers}
 use Rattle.judge.specs.Examples.{examples}
 use Rattle.judge.proofs.ExamplesHold.{examples_hold}
@@ -15,7 +15,7 @@ use Rattle.answering.specs.Replies.{free_answer, reply_to}
 use Rattle.sheet.specs.WholeSheet.{answers_from, sheet_answer}
 use Rattle.sheet.specs.Example.{example_sheet, example_answer}
 
-pub example_accepted : sheet_check example_sheet ≡ Accepted
+pub example_accepted : sheet_check example_sheet ≡ Ok tt
 unfolding example_sheet fault_after
 example_accepted = refl
 

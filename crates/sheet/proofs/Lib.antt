@@ -1,6 +1,5 @@
-pub mod KeptBytes
-pub mod AnswersAhead
 pub mod AnswerBound
+pub mod AnswerOfReplies
 pub mod RecordsInOrder
 pub mod WholeSheetRefusals
 pub mod OutcomeRecords

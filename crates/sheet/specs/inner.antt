@@ -1,2 +1,2 @@
 -- Definitions that only inner contracts use; an instructor need not read them.
-pub mod Kept
+pub mod Replies

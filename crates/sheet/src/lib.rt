@@ -1,80 +1,72 @@
 // A question sheet, its records answered in order into an area that the caller lends. `specs/` says what the answer and each outcome are.
 #![tactic(auto)]
 
-ghost use Rattle.std.specs.Prelude.{◌≡◌, ◌+◌, ◌≤◌, leb, length};
+ghost use Rattle.std.specs.Prelude.{◌≡◌, ◌≤◌, ◌<◌, ◌^◌, sum_by, leb, length, Ok};
 ghost use Rattle.std.proofs.lemmas.List.Edits.{sets};
-ghost use Rattle.question.specs.declared.Checked.TheVariants.{Accepted};
 ghost use Rattle.record.specs.SheetCheck.{sheet_check};
 ghost use Rattle.reply.specs.AnswerBytes.{reply_bytes};
-ghost use Rattle.sheet.specs.WholeSheet.{sheet_answer, outcome, area_after, outcome_record};
-ghost use Rattle.sheet.specs.inner.Kept.{kept, needed};
+ghost use Rattle.sheet.specs.inner.Replies.{replies_left};
+ghost use Rattle.sheet.specs.WholeSheet.{sheet_answer, outcome, area_after};
 
-use answering::{reply_to, starting_state, state_after};
-use question::Checked;
-use record::{check_sheet, next_at, record_at};
-use reply::{Reply, reply_length, write_reply};
+use question::Refusal;
+use record::check_sheet;
+use reply::{reply_length, write_reply};
 
-// Accepted, with the answer's length; or refused, with the number.
-#[derive(Clone, Copy)]
-pub enum Outcome {
-    Accepted(usize),
-    Refused(u8),
-}
+mod replies;
+
+use crate::replies::Replies;
 
 // No accepted sheet's answer is longer (`sheet_answer_short`).
 const LONGEST_ANSWER: usize = 26624;
 
-// A reply's bytes into the area, or none where the walk only counts.
-fn write_if(writing: bool, area: &mut [u8], at: usize, reply: Reply)
-    requires { needed writing (at + length (reply_bytes reply)) ≤ length area.old }
-    ensures { area.new ≡ sets area.old at (kept writing (reply_bytes reply)) }
+// How many bytes the replies to come have.
+fn length_left(replies: Replies) -> usize
+    requires { sum_by (λ reply. length (reply_bytes reply)) (replies_left replies) < 2 ^ 64 }
+    ensures { result ≡ sum_by (λ reply. length (reply_bytes reply)) (replies_left replies.entry) }
 {
-    if writing {
-        write_reply(area, at, reply);
-    }
+    replies.map(reply_length).sum()
 }
 
-// The walk over a sheet's records: the length of its answer, whose bytes are written or only counted.
-fn walk_sheet(sheet: &[u8], area: &mut [u8], writing: bool) -> usize
-    requires { (sheet_check sheet.now ≡ Accepted) × (needed writing (length (sheet_answer sheet.now)) ≤ length area.old) }
-    ensures { (result ≡ length (sheet_answer sheet.now)) × (area.new ≡ sets area.old 0 (kept writing (sheet_answer sheet.now))) }
+// The length of an accepted sheet's answer.
+#[tactic(auto, using(crate::proofs::AnswerOfReplies::answer_length_is, crate::proofs::AnswerBound::sheet_answer_short))]
+fn answer_length(sheet: &[u8]) -> usize
+    requires { sheet_check sheet.now ≡ Ok tt }
+    ensures { result ≡ length (sheet_answer sheet.now) }
 {
-    let mut place: usize = 0;
-    let mut total: usize = 0;
-    let mut state = starting_state();
-    while place < sheet.len() {
-        let record = record_at(sheet, place);
-        let answered = reply_to(state, record);
-        write_if(writing, area, total, answered);
-        total = total + reply_length(answered);
-        state = state_after(state, record);
-        place = next_at(sheet, place);
+    length_left(Replies::of(sheet))
+}
+
+// Whether an area of so many bytes holds the whole answer. Only one that could be too short costs a walk.
+#[tactic(auto, using(crate::proofs::AnswerBound::sheet_answer_short))]
+fn answer_fits(sheet: &[u8], room: usize) -> bool
+    requires { sheet_check sheet.now ≡ Ok tt }
+    ensures { result ≡ leb (length (sheet_answer sheet.now)) room }
+{
+    LONGEST_ANSWER <= room || answer_length(sheet) <= room
+}
+
+// Writes an accepted sheet's answer, and says how long it is.
+#[tactic(auto, using(crate::proofs::AnswerOfReplies::answer_is))]
+fn write_answer(sheet: &[u8], area: &mut [u8]) -> usize
+    requires { (sheet_check sheet.now ≡ Ok tt) × (length (sheet_answer sheet.now) ≤ length area.old) }
+    ensures { (result ≡ length (sheet_answer sheet.now)) × (area.new ≡ sets area.old 0 (sheet_answer sheet.now)) }
+{
+    let mut total = 0;
+    for reply in Replies::of(sheet) {
+        write_reply(area, total, reply);
+        total += reply_length(reply);
     }
     total
 }
 
-// Whether an area of so many bytes holds the whole answer. Only one that could be too short costs a walk.
-fn answer_fits(sheet: &[u8], room: usize) -> bool
-    requires { sheet_check sheet.now ≡ Accepted }
-    ensures { result ≡ leb (length (sheet_answer sheet.now)) room }
-{
-    if LONGEST_ANSWER <= room {
-        return true;
-    }
-    let mut nothing = [0u8; 1];
-    walk_sheet(sheet, &mut nothing, false) <= room
-}
-
 // The entry: any sheet, any area.
-pub fn answer_sheet(sheet: &[u8], area: &mut [u8]) -> Outcome
-    ensures { (outcome_record result ≡ outcome_record (outcome sheet.now (length area.old))) × (area.new ≡ area_after sheet.now area.old) }
+#[tactic(auto, using(crate::proofs::WholeSheetRefusals::long_enough, reply::proofs::Writing::stored_first))]
+pub fn answer_sheet(sheet: &[u8], area: &mut [u8]) -> Result<usize, Refusal>
+    ensures { (result ≡ outcome sheet.now (length area.old)) × (area.new ≡ area_after sheet.now area.old) }
 {
-    match check_sheet(sheet) {
-        Checked::Refused(number) => Outcome::Refused(number),
-        Checked::Accepted => if answer_fits(sheet, area.len()) {
-            Outcome::Accepted(walk_sheet(sheet, area, true))
-        } else {
-            Outcome::Refused(13)
-        },
+    check_sheet(sheet)?;
+    if !answer_fits(sheet, area.len()) {
+        return Err(Refusal::AreaTooShort);
     }
+    Ok(write_answer(sheet, area))
 }

@@ -9,15 +9,9 @@ use std::io;
 use std::io::Read;
 use std::rt::{Env, Files};
 
-fn print_byte(out: &impl Print, byte: u8) -> io::Result<()> {
-    print!(out; "{byte:02x}")
-}
-
 fn print_bytes(out: &impl Print, bytes: &[u8]) -> io::Result<()> {
-    let mut i: usize = 0;
-    while i < bytes.len() {
-        print_byte(out, bytes[i])?;
-        i = i + 1;
+    for byte in bytes {
+        print!(out; "{byte:02x}")?;
     }
     Ok(())
 }
@@ -26,31 +20,27 @@ fn answer_file<P: Print, R: Read>(out: &P, file: &mut R) -> io::Result<()> {
     let mut sheet = read_room();
     let read = read_full(file, &mut sheet)?;
     let output = program_output(&sheet[..read]);
-    let area = output.area;
-    let length = output.length;
-    print_bytes(out, &area[..length])
+    print_bytes(out, &output.area[..output.length])
 }
 
 fn answer_argument<R: Print + Eprint + Files + Env>(rt: &R, k: usize) -> io::Result<()> {
     let mut name = [0u8; NAME_ROOM];
     let length = argument(rt, k, &mut name);
-    match open_named(rt, &name[..length]) {
+    let name = &name[..length];
+    match open_named(rt, name) {
         Ok(mut file) => {
-            rt.write_all(&name[..length])?;
+            rt.write_all(name)?;
             print!(rt; " ")?;
             answer_file(rt, &mut file)?;
             println!(rt; "")
         }
-        Err(error) => say_unread(rt, &name[..length], error),
+        Err(error) => say_unread(rt, name, error),
     }
 }
 
 fn main(rt: HostRuntime) -> io::Result<()> {
-    let count = argument_count(&rt);
-    let mut k: usize = 1;
-    while k < count {
+    for k in 1..argument_count(&rt) {
         answer_argument(&rt, k)?;
-        k = k + 1;
     }
     Ok(())
 }

@@ -1,5 +1,7 @@
 -- The instants that the rule tries, and the second that it searches for, are small: the comparisons at them fit 64 bits, and so do a time's three numbers
 -- 32. Assumes nothing.
+use Rattle.std.specs.Prelude.{Option, Some}
+use Rattle.std.specs.Option.{option_to_list}
 use mathlib.Core.Path.{◌≡◌, refl, sym, subst}
 use mathlib.Core.List.{[], ◌∷◌}
 use mathlib.Core.Logic.{inl, inr, ⊎_elim}
@@ -13,8 +15,6 @@ use Rattle.integers.proofs.Quotation.{quote}
 use Rattle.integers.proofs.Certificates.{by≤, gap≤, ◌⊞◌, ◌⊠◌, 0≤pos, pos≤}
 use Rattle.integers.proofs.Laws.{split≤, max0_le}
 use Rattle.instant.specs.declared.Instant.{Instant}
-use Rattle.instant.specs.declared.Moment.{Moment}
-use Rattle.instant.specs.declared.Moment.TheVariants.{At}
 use Rattle.instant.specs.Order.{◌÷◌}
 use Rattle.instant.specs.inner.Sizes.{SizedInstant}
 use Rattle.path.specs.declared.SensedQuestion.{SensedQuestion}
@@ -22,7 +22,7 @@ use Rattle.path.specs.declared.Side.{Side}
 use Rattle.path.specs.declared.Side.TheVariants.{Lower, Upper}
 use Rattle.path.specs.Paths.{u_d}
 use Rattle.path.specs.Window.{window_end}
-use Rattle.path.specs.Instants.{Among, as_list, turning_instant, path_instants, instants}
+use Rattle.path.specs.Instants.{Among, turning_instant, path_instants, instants}
 use Rattle.path.specs.inner.Sizes.{max_speed_after_delay, Sizes, Sized, farthest, InReach, search_end}
 use Rattle.path.proofs.Membership.{among_one, among_either}
 use Rattle.path.proofs.WindowEnds.{endless_start}
@@ -50,12 +50,12 @@ module _ (s : SensedQuestion) (z : Sizes s) where
     m_hi = omega (arith, z.a_hi);
   }
 
-pub turnings_near : (s : SensedQuestion) → Sizes s → (q : ℤ) (t : Instant) → Among t (as_list (turning_instant q s.strength s.delay (u_d s))) → Near t
+pub turnings_near : (s : SensedQuestion) → Sizes s → (q : ℤ) (t : Instant) → Among t (option_to_list (turning_instant q s.strength s.delay (u_d s))) → Near t
 turnings_near s z (pos q) t i = among_one Near (s.delay * s.strength + max0 (neg_ℤ (u_d s)) ÷ s.strength) t (turning_near s z) i
 turnings_near s z (negsuc q) t i = absurd i
 
-pub turning_reach : (s : SensedQuestion) → Sizes s → (t : Instant) → turning_instant s.target s.strength s.delay (u_d s) ≡ At t → Near t
-turning_reach s z t e = turnings_near s z s.target t (subst (λ (m : Moment). Among t (as_list m)) (sym e) (inl refl))
+pub turning_reach : (s : SensedQuestion) → Sizes s → (t : Instant) → turning_instant s.target s.strength s.delay (u_d s) ≡ Some t → Near t
+turning_reach s z t e = turnings_near s z s.target t (subst (λ (m : Option Instant). Among t (option_to_list m)) (sym e) (inl refl))
 
 path_near : (side : Side) (s : SensedQuestion) → Sizes s → (t : Instant) → Among t (path_instants side s) → Near t
 path_near Lower s z t (inl e) = subst Near (sym e) (delay_near s z)
@@ -64,11 +64,11 @@ path_near Upper s z t i = absurd i
 
 pub instants_near : (side : Side) (s : SensedQuestion) → Sizes s → (t : Instant) → Among t (instants side s) → Near t
 instants_near side s z t (inl e) = subst Near (sym e) (window_start_near s z)
-instants_near side s z t (inr i) = ⊎_elim (path_near side s z t) (window_end_near s z t) (among_either t (path_instants side s) (as_list (window_end s)) i)
+instants_near side s z t (inr i) = ⊎_elim (path_near side s z t) (window_end_near s z t) (among_either t (path_instants side s) (option_to_list (window_end s)) i)
 
 -- ---- the window's end, in the reach of its side
-pub end_reach : (side : Side) (s : SensedQuestion) → Sized side s → (t : Instant) → window_end s ≡ At t → InReach side t.n t.m
-end_reach side s z t e = side_reach side (window_end_near s (sizes_of side s z) t (subst (λ (m : Moment). Among t (as_list m)) (sym e) (inl refl)))
+pub end_reach : (side : Side) (s : SensedQuestion) → Sized side s → (t : Instant) → window_end s ≡ Some t → InReach side t.n t.m
+end_reach side s z t e = side_reach side (window_end_near s (sizes_of side s z) t (subst (λ (m : Option Instant). Among t (option_to_list m)) (sym e) (inl refl)))
 
 -- ---- the whole second that a search finds
 last_small : (side : Side) (s : SensedQuestion) → Sized side s → search_end side s ≤ farthest Upper
@@ -76,7 +76,7 @@ last_small Lower s z = omega (arith, z.d_hi)
 last_small Upper s z = omega arith
 
 -- ---- a moment that the rule picks
-pub picked_sized : (side : Side) (s : SensedQuestion) → Sized side s → (t : Instant) → Picks side s (At t) → SizedInstant t
+pub picked_sized : (side : Side) (s : SensedQuestion) → Sized side s → (t : Instant) → Picks side s (Some t) → SizedInstant t
 picked_sized side s z t (inl e) = near_sized t (instants_near side s (sizes_of side s z) t e.among)
 picked_sized side s z t (inr f) = ⊎_elim
     (λ (l : t.n ≤ search_end side s). let m = f.whole in record { n = omega (arith, last_small side s z); m = omega arith })

@@ -1,5 +1,7 @@
 -- The steps of the code: an instant with a conflict is shown, one without leaves the rest; a window with an end is not searched, and one without an end
 -- holds every whole second where it holds 0. Assumes nothing.
+use Rattle.std.specs.Prelude.{None, Option, Some}
+use Rattle.std.specs.Option.{is_none, option_to_list}
 use mathlib.Core.Path.{◌≡◌, refl, sym, ap, ap₂, ◌∙◌, subst}
 use mathlib.Core.Bool.{Bool, true, false, ◌&&◌}
 use mathlib.Core.List.{List, [], ◌∷◌}
@@ -10,8 +12,6 @@ use lib.Dec.{T}
 use lib.Signed.{lt_z_yes}
 use Rattle.integers.proofs.Laws.{split≤}
 use Rattle.instant.specs.declared.Instant.{Instant}
-use Rattle.instant.specs.declared.Moment.{Moment}
-use Rattle.instant.specs.declared.Moment.TheVariants.{At, Never}
 use Rattle.instant.specs.Order.{◌÷◌}
 use Rattle.path.specs.declared.SensedQuestion.{SensedQuestion}
 use Rattle.path.specs.declared.Side.{Side}
@@ -19,13 +19,13 @@ use Rattle.path.specs.declared.Side.TheVariants.{Lower, Upper}
 use Rattle.path.specs.Window.{window_end}
 use Rattle.path.specs.inner.Tests.{in_window, not_beyond, in_conflict}
 use Rattle.path.specs.Conflict.{NotBeyond}
-use Rattle.path.specs.Instants.{Among, as_list}
-use Rattle.path.specs.inner.Sizes.{Sized, farthest, search_start, search_end}
+use Rattle.path.specs.Instants.{Among}
+use Rattle.path.specs.inner.Sizes.{Sized, search_start, search_end}
 use Rattle.path.proofs.Decisions.{window_decided, not_beyond_decided}
 use Rattle.path.proofs.WindowEnds.{between_window, endless_start_zero, endless_start}
 use Rattle.path.proofs.SideProfiles.{Approaches, reaches_end}
 use Rattle.path.proofs.WholeSeconds.{none_before}
-use Rattle.shown.specs.TimeShown.{first_of, first_second, or_else, is_never, approaches, searches, seconds_tried, searched, shown_from}
+use Rattle.shown.specs.TimeShown.{first_of, first_second, or_else, approaches, searches, seconds_tried, searched, shown_from}
 use Rattle.shown.specs.inner.Steps.{StartTried, InstantsTried, Searchable, first_reached}
 
 -- ---- tests as equations
@@ -44,23 +44,23 @@ false_of true f = absurd (f tt)
 false_of false f = refl
 
 -- ---- one instant more
-module _ (test : Instant → Bool) (t : Instant) (l : List Instant) (other : Moment) where
-  or_hit : test t ≡ true → or_else (first_of test (t ∷ l)) other ≡ At t
+module _ (test : Instant → Bool) (t : Instant) (l : List Instant) (other : Option Instant) where
+  or_hit : test t ≡ true → or_else (first_of test (t ∷ l)) other ≡ Some t
   or_hit e = go (test t) e
     where
-      go : (b : Bool) → b ≡ true → or_else (elim b [ true ↦ At t | false ↦ first_of test l ]) other ≡ At t
+      go : (b : Bool) → b ≡ true → or_else (elim b [ true ↦ Some t | false ↦ first_of test l ]) other ≡ Some t
       go true q = refl
       go false q = absurd (no true (sym q) tt)
 
   or_miss : test t ≡ false → or_else (first_of test (t ∷ l)) other ≡ or_else (first_of test l) other
   or_miss e = go (test t) e
     where
-      go : (b : Bool) → b ≡ false → or_else (elim b [ true ↦ At t | false ↦ first_of test l ]) other ≡ or_else (first_of test l) other
+      go : (b : Bool) → b ≡ false → or_else (elim b [ true ↦ Some t | false ↦ first_of test l ]) other ≡ or_else (first_of test l) other
       go true q = absurd (no true q tt)
       go false q = refl
 
 module _ (side : Side) (s : SensedQuestion) (t : Instant) (l : List Instant) where
-  pub hit : in_conflict side s t.n t.m ≡ true → At t ≡ shown_from side s (t ∷ l)
+  pub hit : in_conflict side s t.n t.m ≡ true → Some t ≡ shown_from side s (t ∷ l)
   unfolding shown_from
   hit e = sym (or_hit (λ x. in_conflict side s x.n x.m) t l (searched side s) e)
 
@@ -85,39 +85,39 @@ module _ (side : Side) (s : SensedQuestion) where
   only_search = refl
 
   -- no search
-  pub no_search : searches side s ≡ false → Never ≡ searched side s
+  pub no_search : searches side s ≡ false → ◌≡◌ {A = Option Instant} None (searched side s)
   unfolding searched
   no_search e = go (searches side s) e
     where
-      go : (b : Bool) → b ≡ false → Never ≡ elim b [ true ↦ first_second (λ j. in_conflict side s j 1) (seconds_tried side) 0 | false ↦ Never ]
+      go : (b : Bool) → b ≡ false → ◌≡◌ {A = Option Instant} None (elim b [ true ↦ first_second (λ j. in_conflict side s j 1) (seconds_tried side) 0 | false ↦ None ])
       go true q = absurd (no true q tt)
       go false q = refl
 
-  pub ended : (t : Instant) → window_end s ≡ At t → Never ≡ shown_from side s []
-  ended t e = no_search (ap (λ (m : Moment). is_never m && (in_window s 0 1 && approaches side s)) e) ∙ only_search
+  pub ended : (t : Instant) → window_end s ≡ Some t → None ≡ shown_from side s []
+  ended t e = no_search (ap (λ (m : Option Instant). is_none m && (in_window s 0 1 && approaches side s)) e) ∙ only_search
 
   -- where the window has no end
-  module _ (endless : window_end s ≡ Never) where
+  module _ (endless : window_end s ≡ None) where
     pub searches_is : searches side s ≡ (in_window s 0 1 && approaches side s)
-    searches_is = ap (λ (m : Moment). is_never m && (in_window s 0 1 && approaches side s)) endless
+    searches_is = ap (λ (m : Option Instant). is_none m && (in_window s 0 1 && approaches side s)) endless
 
-    pub departing : in_window s 0 1 ≡ true → approaches side s ≡ false → Never ≡ searched side s
+    pub departing : in_window s 0 1 ≡ true → approaches side s ≡ false → None ≡ searched side s
     departing w e = no_search (searches_is ∙ ap₂ ◌&&◌ w e)
 
     -- every whole second is in the window where 0 is
     all_in : in_window s 0 1 ≡ true → (j : ℕ) → in_window s j 1 ≡ true
     all_in w j = true_of (in_window s j 1) ((window_decided s j 1).1
         (between_window s 0 1 j 1 (omega arith) ((window_decided s 0 1).0 (yes (in_window s 0 1) w))
-        (record { after = endless_start s endless j; before = λ t i. absurd (subst (λ (m : Moment). Among t (as_list m)) endless i) })))
+        (record { after = endless_start s endless j; before = λ t i. absurd (subst (λ (m : Option Instant). Among t (option_to_list m)) endless i) })))
 
     at_second : in_window s 0 1 ≡ true → (j : ℕ) → not_beyond side s j 1 ≡ in_conflict side s j 1
     at_second w j = inside j 1 (all_in w j)
 
     second_same : (test other : ℕ → Bool) → ((j : ℕ) → test j ≡ other j) → (f i : ℕ) → first_second test f i ≡ first_second other f i
     second_same test other h zero i = refl
-    second_same test other h (suc f) i = ap₂ (λ (b : Bool) (m : Moment). elim b [ true ↦ At (i ÷ 1) | false ↦ m ]) (h i) (second_same test other h f (suc i))
+    second_same test other h (suc f) i = ap₂ (λ (b : Bool) (m : Option Instant). elim b [ true ↦ Some (i ÷ 1) | false ↦ m ]) (h i) (second_same test other h f (suc i))
 
-    found_is : (f : ℕ) (b : Bool) → b ≡ true → ((j : ℕ) → not_beyond side s j 1 ≡ in_conflict side s j 1) → first_second (λ j. not_beyond side s j 1) f 0 ≡ elim b [ true ↦ first_second (λ j. in_conflict side s j 1) f 0 | false ↦ Never ]
+    found_is : (f : ℕ) (b : Bool) → b ≡ true → ((j : ℕ) → not_beyond side s j 1 ≡ in_conflict side s j 1) → first_second (λ j. not_beyond side s j 1) f 0 ≡ elim b [ true ↦ first_second (λ j. in_conflict side s j 1) f 0 | false ↦ None ]
     found_is f true e h = second_same (λ j. not_beyond side s j 1) (λ j. in_conflict side s j 1) h f 0
     found_is f false e h = absurd (no true (sym e) tt)
 
@@ -129,7 +129,7 @@ module _ (side : Side) (s : SensedQuestion) where
     zero_clear w h = at_second w 0 ∙ ap (λ (t : Instant). in_conflict side s t.n t.m) (sym (endless_start_zero s endless)) ∙ h
 
 -- ---- the search may begin
-pub searchable : (side : Side) (s : SensedQuestion) → window_end s ≡ Never → in_window s 0 1 ≡ true → approaches side s ≡ true → InstantsTried side s → Searchable side s
+pub searchable : (side : Side) (s : SensedQuestion) → window_end s ≡ None → in_window s 0 1 ≡ true → approaches side s ≡ true → InstantsTried side s → Searchable side s
 searchable Lower s e w a h = record { approach = a; zero = zero_clear Lower s e w h.0; start = at_second Lower s e w s.delay ∙ h.1 }
 searchable Upper s e w a h = record { approach = a; zero = zero_clear Upper s e w h; start = zero_clear Upper s e w h }
 
@@ -158,18 +158,18 @@ bracket_start side s z h = record {
   reached = true_of (not_beyond side s (search_end side s) 1) ((not_beyond_decided side s (search_end side s) 1).1 (reaches_end side s z (approaching side s h.approach)));
 }
 
-first_is : (test : ℕ → Bool) (f i r : ℕ) → i ≤ r → r < i + f → ((j : ℕ) → j < r → test j ≡ false) → test r ≡ true → first_second test f i ≡ At (r ÷ 1)
+first_is : (test : ℕ → Bool) (f i r : ℕ) → i ≤ r → r < i + f → ((j : ℕ) → j < r → test j ≡ false) → test r ≡ true → first_second test f i ≡ Some (r ÷ 1)
 first_is test zero i r l h n y = absurd (omega arith)
 first_is test (suc f) i r l h n y = ⊎_elim
-    (λ (g : r ≤ i). let e : i ≡ r = omega arith in picks (test i) (ap test e ∙ y) ∙ ap (λ (k : ℕ). At (k ÷ 1)) e)
+    (λ (g : r ≤ i). let e : i ≡ r = omega arith in picks (test i) (ap test e ∙ y) ∙ ap (λ (k : ℕ). Some (k ÷ 1)) e)
     (λ (g : i < r). skips (test i) (n i g) ∙ first_is test f (suc i) r g (omega arith) n y)
     (split≤ r i)
   where
-    picks : (b : Bool) → b ≡ true → elim b [ true ↦ At (i ÷ 1) | false ↦ first_second test f (suc i) ] ≡ At (i ÷ 1)
+    picks : (b : Bool) → b ≡ true → elim b [ true ↦ Some (i ÷ 1) | false ↦ first_second test f (suc i) ] ≡ Some (i ÷ 1)
     picks true e = refl
     picks false e = absurd (no true (sym e) tt)
 
-    skips : (b : Bool) → b ≡ false → elim b [ true ↦ At (i ÷ 1) | false ↦ first_second test f (suc i) ] ≡ first_second test f (suc i)
+    skips : (b : Bool) → b ≡ false → elim b [ true ↦ Some (i ÷ 1) | false ↦ first_second test f (suc i) ] ≡ first_second test f (suc i)
     skips true e = absurd (no true e tt)
     skips false e = refl
 
@@ -178,13 +178,8 @@ pub enough : (side : Side) (s : SensedQuestion) → Sized side s → search_end 
 enough Lower s z = omega (arith, z.d_hi)
 enough Upper s z = omega arith
 
--- the seconds of the search are in reach of the comparisons
-pub search_in_reach : (side : Side) (s : SensedQuestion) → Sized side s → search_end side s ≤ farthest side
-search_in_reach Lower s z = omega (arith, z.d_hi)
-search_in_reach Upper s z = omega arith
-
 -- where lo and hi meet, hi is the first
-pub bracket_found : (side : Side) (s : SensedQuestion) → Sized side s → Searchable side s → (lo hi : ℕ) → Bracket side s lo hi → hi ≤ lo + 1 → first_reached side s ≡ At (hi ÷ 1)
+pub bracket_found : (side : Side) (s : SensedQuestion) → Sized side s → Searchable side s → (lo hi : ℕ) → Bracket side s lo hi → hi ≤ lo + 1 → first_reached side s ≡ Some (hi ÷ 1)
 unfolding first_reached
 bracket_found side s z h lo hi b l =
     let clear : (j : ℕ) → not_beyond side s j 1 ≡ false → ¬ NotBeyond side s j 1 = λ j e c. no (not_beyond side s j 1) e ((not_beyond_decided side s j 1).1 c) in

@@ -1,8 +1,6 @@
 -- Document 01, "The time shown", as it stands there: what it is for a moment to be the one that the rule picks.
-use Rattle.std.specs.Prelude.{◌≡◌, ◌⊎◌, ℕ, ◌<◌}
+use Rattle.std.specs.Prelude.{◌≡◌, ◌⊎◌, ℕ, ◌<◌, None, Option, Some}
 use Rattle.instant.specs.declared.Instant.{Instant}
-use Rattle.instant.specs.declared.Moment.{Moment}
-use Rattle.instant.specs.declared.Moment.TheVariants.{At, Never}
 use Rattle.instant.specs.Order.{◌≼◌}
 use Rattle.path.specs.declared.SensedQuestion.{SensedQuestion}
 use Rattle.path.specs.declared.Side.{Side}
@@ -23,12 +21,12 @@ NoneConflicts side s = (x : Instant) → Among x (instants side s) → ¬ Confli
 -- "If none conflicts and the window has no end, the first whole second with a conflict"
 pub record FirstWholeSecond (side : Side) (s : SensedQuestion) (t : Instant) : Type 0 where
   pub none : NoneConflicts side s
-  pub endless : window_end s ≡ Never
+  pub endless : window_end s ≡ None
   pub whole : t.m ≡ 1
   pub conflict : Conflict side s t.n 1
   pub first : (j : ℕ) → j < t.n → ¬ Conflict side s j 1
 
 -- the rule picks this moment, or none
-abbrev pub Picks : Side → SensedQuestion → Moment → Type 0
-Picks side s (At t) = Earliest side s t ⊎ FirstWholeSecond side s t
-Picks side s Never = NoneConflicts side s × (window_end s ≡ Never → (j : ℕ) → ¬ Conflict side s j 1)
+abbrev pub Picks : Side → SensedQuestion → Option Instant → Type 0
+Picks side s (Some t) = Earliest side s t ⊎ FirstWholeSecond side s t
+Picks side s None = NoneConflicts side s × (window_end s ≡ None → (j : ℕ) → ¬ Conflict side s j 1)

@@ -1,84 +1,82 @@
 // The time shown on a side: the first of the rule's instants with a conflict, or, where the window has no end, the first whole second with one.
+//
+// Where an instant is asked, the function is inlined: so each side gets code of its own, and a verdict takes a third fewer instructions (`compare/bench`).
 #![tactic(auto)]
 
-ghost use Rattle.std.specs.Prelude.{◌≡◌, ◌++◌};
-ghost use Rattle.instant.specs.declared.Moment.TheVariants.{At, Never};
+ghost use Rattle.std.specs.Prelude.{◌≡◌, ◌++◌, None, Some};
+ghost use Rattle.std.specs.Option.{option_to_list};
 ghost use Rattle.instant.specs.Order.{◌÷◌};
-ghost use Rattle.path.specs.declared.Side.TheVariants.{Lower, Upper};
-ghost use Rattle.path.specs.Letters.{q, a, d};
-ghost use Rattle.path.specs.Paths.{u_d};
+ghost use Rattle.path.specs.declared.Side.TheVariants.{Lower};
+ghost use Rattle.path.specs.Letters.{d};
 ghost use Rattle.path.specs.Window.{window_start, window_end};
 ghost use Rattle.path.specs.inner.Tests.{opening, in_conflict};
-ghost use Rattle.path.specs.Instants.{as_list, turning_instant, path_instants};
-ghost use Rattle.path.specs.inner.Sizes.{Sizes, Sized, InReach, search_start, search_end};
+ghost use Rattle.path.specs.Instants.{path_instants};
+ghost use Rattle.path.specs.inner.Sizes.{InReach, search_start, search_end};
 ghost use Rattle.shown.specs.TimeShown.{approaches, searched, shown_from, time_shown};
-ghost use Rattle.shown.specs.inner.Steps.{Opened, StartTried, InstantsTried, shown_at, lowest_point, Searchable, first_reached};
+ghost use Rattle.shown.specs.inner.Steps.{Opened, StartTried, InstantsTried, shown_at, turning_of, lowest_point, Searchable, first_reached};
 
-use conflict::{not_beyond, second_not_beyond, speed_after_delay, upper_target};
-use instant::{Instant, Moment, no_later};
-use path::{SensedQuestion, Side};
+use conflict::{not_beyond, rule_target, speed_after_delay};
+use instant::{Instant, no_later};
+use path::{Side, SideQuestion, SizedQuestion};
 use window::{in_window, positive_part, window_end};
 
-// The path's lowest point after the delay, if it has one.
-fn turning_instant(s: SensedQuestion) -> Moment
-    requires { Sizes s }
-    ensures { result ≡ turning_instant (q s) (a s) (d s) (u_d s) }
+// The lower path's lowest point after the delay, if it has one.
+fn turning_instant(question: SizedQuestion) -> Option<Instant>
+    ensures { result ≡ turning_of question.sensed }
 {
-    let q = s.target;
-    if q < 0 {
-        return Moment::Never;
+    if question.sensed.target < 0 {
+        return None;
     }
-    let a = s.strength;
-    let d = s.delay;
-    let speed = speed_after_delay(Side::Lower, s);
-    let back = positive_part(-speed);
-    Moment::At(Instant {
-        n: d * a + back,
+    let a = question.sensed.strength;
+    let d = question.sensed.delay;
+    let speed = speed_after_delay(Side::Lower, question);
+    Some(Instant {
+        n: d * a + positive_part(-speed),
         m: a,
     })
 }
 
 // Does the path go towards the intruder for ever?
-fn approaching(side: Side, s: SensedQuestion) -> bool
-    requires { Sized side s }
-    ensures { result ≡ approaches side s }
+fn approaching(asked: SideQuestion) -> bool
+    ensures { result ≡ approaches asked.side asked.question.sensed }
 {
-    match side {
-        Side::Lower => s.target < 0,
-        Side::Upper => 0 < upper_target(s),
+    let target = rule_target(asked);
+    match asked.side {
+        Side::Lower => target < 0,
+        Side::Upper => 0 < target,
     }
 }
 
-fn search_start(side: Side, s: SensedQuestion) -> u64
-    ensures { result ≡ search_start side s }
+fn search_start(asked: SideQuestion) -> u64
+    ensures { result ≡ search_start asked.side asked.question.sensed }
 {
-    match side {
-        Side::Lower => s.delay,
+    match asked.side {
+        Side::Lower => asked.question.sensed.delay,
         Side::Upper => 0,
     }
 }
 
-fn search_end(side: Side, s: SensedQuestion) -> u64
-    requires { Sizes s }
-    ensures { result ≡ search_end side s }
+fn search_end(asked: SideQuestion) -> u64
+    ensures { result ≡ search_end asked.side asked.question.sensed }
 {
-    match side {
-        Side::Lower => s.delay + 1680000,
-        Side::Upper => s.delay + 201680000,
+    let d = asked.question.sensed.delay;
+    match asked.side {
+        Side::Lower => d + 1_680_000,
+        Side::Upper => d + 201_680_000,
     }
 }
 
 // The first whole second at which the path is not beyond the intruder: all seconds that follow one such are such, so the search halves.
-fn first_second(side: Side, s: SensedQuestion) -> u64
-    requires sized { Sized side s }
-    requires searchable { Searchable side s }
-    ensures { first_reached side s ≡ At (result ÷ 1) }
+#[inline(always)]
+fn first_second(asked: SideQuestion) -> u64
+    requires { Searchable asked.side asked.question.sensed }
+    ensures { first_reached asked.side asked.question.sensed ≡ Some (result ÷ 1) }
 {
-    let mut lo = search_start(side, s);
-    let mut hi = search_end(side, s);
+    let mut lo = search_start(asked);
+    let mut hi = search_end(asked);
     while hi - lo > 1 {
         let mid = lo + (hi - lo) / 2;
-        if second_not_beyond(side, s, mid) {
+        if not_beyond(asked, Instant { n: mid, m: 1 }) {
             hi = mid;
         } else {
             lo = mid;
@@ -88,41 +86,42 @@ fn first_second(side: Side, s: SensedQuestion) -> u64
 }
 
 // What is left where the window has no end and no instant has a conflict.
-fn from_search(side: Side, s: SensedQuestion) -> Moment
-    requires sized { Sized side s }
-    requires opened { Opened s × InstantsTried side s }
-    requires s_value { window_end s ≡ Never }
-    ensures { result ≡ searched side s }
+#[inline(always)]
+fn from_search(asked: SideQuestion) -> Option<Instant>
+    requires opened { Opened asked.question.sensed }
+    requires tried { InstantsTried asked.side asked.question.sensed }
+    requires endless { window_end asked.question.sensed ≡ None }
+    ensures { result ≡ searched asked.side asked.question.sensed }
 {
-    if !approaching(side, s) {
-        return Moment::Never;
+    if !approaching(asked) {
+        return None;
     }
-    let n = first_second(side, s);
-    Moment::At(Instant { n: n, m: 1 })
+    Some(Instant {
+        n: first_second(asked),
+        m: 1,
+    })
 }
 
 // An instant of the window, shown if the path is not beyond the intruder there.
-fn shown_at(side: Side, s: SensedQuestion, t: Instant) -> Moment
-    requires sized { Sized side s }
-    requires in_reach { InReach side t.n t.m }
-    ensures { result ≡ shown_at side s t }
+#[tactic(auto, unfolding(crate::specs::inner::Steps::shown_at))]
+#[inline(always)]
+fn shown_at(asked: SideQuestion, t: Instant) -> Option<Instant>
+    requires { InReach asked.side t.n t.m }
+    ensures { result ≡ shown_at asked.side asked.question.sensed t }
 {
-    if not_beyond(side, s, t.n, t.m) {
-        return Moment::At(t);
-    }
-    Moment::Never
+    not_beyond(asked, t).then_some(t)
 }
 
 // The window's end is in the window where its start is; without an end the search is left.
-fn from_end(side: Side, s: SensedQuestion) -> Moment
-    requires sized { Sized side s }
-    requires opened { Opened s × InstantsTried side s }
-    ensures { result ≡ shown_from side s (as_list (window_end s)) }
+#[inline(always)]
+fn from_end(asked: SideQuestion) -> Option<Instant>
+    requires opened { Opened asked.question.sensed }
+    requires tried { InstantsTried asked.side asked.question.sensed }
+    ensures { result ≡ shown_from asked.side asked.question.sensed (option_to_list (window_end asked.question.sensed)) }
 {
-    let end = window_end(s);
-    match end {
-        Moment::Never => from_search(side, s),
-        Moment::At(t) => shown_at(side, s, t),
+    match window_end(asked.question) {
+        None => from_search(asked),
+        Some(t) => shown_at(asked, t),
     }
 }
 
@@ -136,91 +135,81 @@ enum LowestPoint {
     Beyond,
 }
 
-fn lowest_point(s: SensedQuestion, start: Instant) -> LowestPoint
-    requires sizes { Sizes s }
-    requires start_value { start ≡ window_start s }
-    ensures { result ≡ lowest_point s }
+#[tactic(auto, unfolding(crate::specs::inner::Steps::lowest_point))]
+fn lowest_point(question: SizedQuestion, start: Instant) -> LowestPoint
+    requires { start ≡ window_start question.sensed }
+    ensures { result ≡ lowest_point question.sensed }
 {
-    let turning = turning_instant(s);
-    match turning {
-        Moment::Never => LowestPoint::Beyond,
-        Moment::At(t) => {
-            if no_later(t, start) {
-                return LowestPoint::Passed;
-            }
-            if in_window(s, t.n, t.m) {
-                return LowestPoint::Inside(t);
-            }
-            LowestPoint::Beyond
-        }
+    match turning_instant(question) {
+        Some(t) if no_later(t, start) => LowestPoint::Passed,
+        Some(t) if in_window(question, t) => LowestPoint::Inside(t),
+        _ => LowestPoint::Beyond,
     }
 }
 
 // After d has been tried. Where the path has no conflict at its lowest, no later time has one.
-fn from_lowest(s: SensedQuestion, start: Instant) -> Moment
-    requires sizes { Sizes s }
-    requires opened { Opened s × InstantsTried Lower s }
-    requires start_value { start ≡ window_start s }
-    ensures { result ≡ shown_from Lower s (as_list (turning_instant (q s) (a s) (d s) (u_d s)) ++ as_list (window_end s)) }
+fn from_lowest(question: SizedQuestion, start: Instant) -> Option<Instant>
+    requires starts { start ≡ window_start question.sensed }
+    requires opened { Opened question.sensed }
+    requires tried { InstantsTried Lower question.sensed }
+    ensures { result ≡ shown_from Lower question.sensed (option_to_list (turning_of question.sensed) ++ option_to_list (window_end question.sensed)) }
 {
-    match lowest_point(s, start) {
-        LowestPoint::Passed => Moment::Never,
-        LowestPoint::Inside(t) => shown_at(Side::Lower, s, t),
-        LowestPoint::Beyond => from_end(Side::Lower, s),
+    let lower = SideQuestion {
+        side: Side::Lower,
+        question,
+    };
+    match lowest_point(question, start) {
+        LowestPoint::Passed => None,
+        LowestPoint::Inside(t) => shown_at(lower, t),
+        LowestPoint::Beyond => from_end(lower),
     }
 }
 
 // Is d in conflict? A window that starts no earlier has nothing to show there.
-fn conflict_at_delay(s: SensedQuestion, start: Instant) -> bool
-    requires sizes { Sizes s }
-    requires opened { Opened s × StartTried Lower s }
-    requires start_value { start ≡ window_start s }
-    ensures { result ≡ in_conflict Lower s (d s) 1 }
+#[tactic(auto, using(crate::proofs::OpenWindow::late_start), unfolding(path::specs::inner::Tests::in_conflict))]
+fn conflict_at_delay(question: SizedQuestion, start: Instant) -> bool
+    requires starts { start ≡ window_start question.sensed }
+    requires opened { Opened question.sensed }
+    requires tried { StartTried Lower question.sensed }
+    ensures { result ≡ in_conflict Lower question.sensed (d question.sensed) 1 }
 {
-    let d = s.delay;
-    if start.n < d * start.m {
-        if in_window(s, d, 1) {
-            return not_beyond(Side::Lower, s, d, 1);
-        }
-    }
-    false
+    let d = question.sensed.delay;
+    let end = Instant { n: d, m: 1 };
+    let lower = SideQuestion {
+        side: Side::Lower,
+        question,
+    };
+    start.n < d * start.m && in_window(question, end) && not_beyond(lower, end)
 }
 
-fn from_delay(s: SensedQuestion, start: Instant) -> Moment
-    requires sizes { Sizes s }
-    requires opened { Opened s × StartTried Lower s }
-    requires start_value { start ≡ window_start s }
-    ensures { result ≡ shown_from Lower s (path_instants Lower s ++ as_list (window_end s)) }
+fn from_delay(question: SizedQuestion, start: Instant) -> Option<Instant>
+    requires starts { start ≡ window_start question.sensed }
+    requires opened { Opened question.sensed }
+    requires tried { StartTried Lower question.sensed }
+    ensures { result ≡ shown_from Lower question.sensed (path_instants Lower question.sensed ++ option_to_list (window_end question.sensed)) }
 {
-    if conflict_at_delay(s, start) {
-        return Moment::At(Instant { n: s.delay, m: 1 });
+    if conflict_at_delay(question, start) {
+        return Some(Instant {
+            n: question.sensed.delay,
+            m: 1,
+        });
     }
-    from_lowest(s, start)
+    from_lowest(question, start)
 }
 
-// After the window's start on the upper side. A path that does not approach falls throughout.
-fn from_start(s: SensedQuestion) -> Moment
-    requires sized { Sized Upper s }
-    requires opened { Opened s × StartTried Upper s }
-    ensures { result ≡ shown_from Upper s (as_list (window_end s)) }
+// The time shown on a side of a window that opens at a start. Between the start and the end only the lower path has instants; an upper path that does not
+// approach falls throughout.
+#[inline(always)]
+pub fn time_shown(asked: SideQuestion, start: Instant) -> Option<Instant>
+    requires { opening asked.question.sensed ≡ Some start }
+    ensures { result ≡ time_shown asked.side asked.question.sensed }
 {
-    if !approaching(Side::Upper, s) {
-        return Moment::Never;
+    if not_beyond(asked, start) {
+        return Some(start);
     }
-    from_end(Side::Upper, s)
-}
-
-// The time shown on a side of a window that opens at a start. Between the start and the end only the lower path has instants.
-pub fn time_shown(side: Side, s: SensedQuestion, start: Instant) -> Moment
-    requires sized { Sized side s }
-    requires s_value { opening s ≡ At start }
-    ensures { result ≡ time_shown side s }
-{
-    if not_beyond(side, s, start.n, start.m) {
-        return Moment::At(start);
-    }
-    match side {
-        Side::Lower => from_delay(s, start),
-        Side::Upper => from_start(s),
+    match asked.side {
+        Side::Lower => from_delay(asked.question, start),
+        Side::Upper if approaching(asked) => from_end(asked),
+        Side::Upper => None,
     }
 }

@@ -1,46 +1,27 @@
--- The numbers of a flight and its stretches: how many there are, and what stands past the last. Assumes nothing.
-use mathlib.Core.Path.{◌≡◌, refl, sym, subst}
-use mathlib.Core.Bool.{Bool, true, false}
+-- The numbers of a flight and its stretches: how many there are. Assumes nothing.
+use mathlib.Core.Path.{◌≡◌, refl, ap, ap₂, ◌∙◌}
+use mathlib.Core.Bool.{Bool, ◌&&◌}
 use mathlib.Core.List.{List, [], ◌∷◌}
-use Prim.Native.Nat.{ℕ, zero, suc, ◌/◌, ◌%◌, ◌≤◌}
-use native.Mathlib.Nat.{div-add-mod, mod-lt}
+use Prim.Native.Nat.{ℕ, suc, ◌/◌, ◌%◌}
 use native.Mathlib.Omega.{arith}
-use lib.Dec.{T}
+use lib.Dec.{eqb, leb}
 use lib.IntN.{ℤ}
-use lib.ListN.{length, get_or}
-use Rattle.flight.specs.declared.Stretch.{Stretch}
+use lib.ListN.{length}
+use Rattle.limits.specs.Limits.{min_stretches, max_stretches}
+use Rattle.flight.specs.FlightLimits.{count_within}
 use Rattle.flight.specs.HandedIn.{flight_of, paired}
-use Rattle.flight.proofs.HandedIn.{count_handed, count_odd}
 
--- half as many stretches as numbers; the numbers are pairs exactly if none is left over
-record Halved (l : List ℤ) (b : Bool) : Type 0 where
-  stretches : length (flight_of l) ≡ length l / 2
-  even : length l % 2 ≡ 0 → b ≡ true
-  odd : ¬ (length l % 2 ≡ 0) → b ≡ false
+-- half as many stretches as numbers
+pub count : (l : List ℤ) → length (flight_of l) ≡ length l / 2
+count [] = omega arith
+count (g ∷ []) = omega arith
+count (g ∷ t ∷ l) = omega (arith, count l)
 
-halved : (l : List ℤ) (b : Bool) → paired l ≡ b → Halved l b
-halved l true e =
-    let n = count_handed l (subst T (sym e) tt) in
-    let half = div-add-mod (length l) 2 in
-    let small = mod-lt (length l) {m = 2} (omega arith) in
-    record { stretches = omega arith; even = λ h. refl; odd = λ h. absurd (h (omega arith)) }
-halved l false e =
-    let n = count_odd l e in
-    let half = div-add-mod (length l) 2 in
-    let small = mod-lt (length l) {m = 2} (omega arith) in
-    record { stretches = omega arith; even = λ (h : length l % 2 ≡ 0). absurd (omega arith); odd = λ h. refl }
+-- the numbers are pairs exactly if none is left over
+pub pairs : (l : List ℤ) → paired l ≡ eqb (length l % 2) 0
+pairs [] = refl
+pairs (g ∷ []) = refl
+pairs (g ∷ t ∷ l) = pairs l ∙ ap (λ (rest : ℕ). eqb rest 0) {x = length l % 2} {y = suc (suc (length l)) % 2} (omega arith)
 
-module _ (l : List ℤ) where
-  pub count : length (flight_of l) ≡ length l / 2
-  count = (halved l (paired l) refl).stretches
-
-  pub are_pairs : length l % 2 ≡ 0 → paired l ≡ true
-  are_pairs = (halved l (paired l) refl).even
-
-  pub no_pairs : ¬ (length l % 2 ≡ 0) → paired l ≡ false
-  no_pairs = (halved l (paired l) refl).odd
-
-pub past_the_last : (l : List Stretch) (i : ℕ) (z : Stretch) → length l ≤ i → get_or l i z ≡ z
-past_the_last [] i z h = refl
-past_the_last (x ∷ l) zero z h = absurd (omega arith)
-past_the_last (x ∷ l) (suc i) z h = past_the_last l i z (omega arith)
+pub counted : (l : List ℤ) → (paired l && count_within (flight_of l)) ≡ (eqb (length l % 2) 0 && (leb min_stretches (length l / 2) && leb (length l / 2) max_stretches))
+counted l = ap₂ (λ (even : Bool) (n : ℕ). even && (leb min_stretches n && leb n max_stretches)) (pairs l) (count l)

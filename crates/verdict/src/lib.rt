@@ -1,19 +1,16 @@
 // The verdict on an accepted question. `specs/` says what it is.
 #![tactic(auto)]
 
-ghost use Rattle.std.specs.Prelude.{◌≡◌, true};
-ghost use Rattle.instant.specs.declared.Moment.TheVariants.{At, Never};
-ghost use Rattle.path.specs.declared.Side.TheVariants.{Lower, Upper};
-ghost use Rattle.path.specs.inner.Sizes.{Sized};
+ghost use Rattle.std.specs.Prelude.{◌≡◌, true, None, Ok, Some};
+ghost use Rattle.path.specs.inner.Sizes.{UpperSizes};
 ghost use Rattle.path.specs.inner.Tests.{opening};
-ghost use Rattle.question.specs.declared.Checked.TheVariants.{Accepted};
-ghost use Rattle.question.specs.Refusals.{two_sided, refusal};
+ghost use Rattle.question.specs.Refusals.{two_sided};
 ghost use Rattle.sensed.specs.Sensed.{sensed_question};
 ghost use Rattle.verdict.specs.Verdicts.{one_sided_verdict, two_sided_verdict, verdict_of, verdict};
 
-use instant::{Instant, Moment, Time, lowest_terms};
-use path::{SensedQuestion, Side};
-use question::{Encounter, Question, Settings, two_sided};
+use instant::{Instant, Time, lowest_terms};
+use path::{Side, SideQuestion, SizedQuestion};
+use question::{AcceptedQuestion, Question, two_sided};
 use sensed::sensed_question;
 use shown::time_shown;
 use window::opening;
@@ -34,36 +31,29 @@ pub enum Verdict {
     Conflicts(Time, Time),
 }
 
-fn one_sided_verdict(lower: Moment) -> Verdict
+fn one_sided_verdict(lower: Option<Instant>) -> Verdict
     ensures { result ≡ one_sided_verdict lower }
 {
     match lower {
-        Moment::At(t) => Verdict::Conflict(lowest_terms(t.n, t.m)),
-        Moment::Never => Verdict::Clear(ClearSides::Lower),
+        Some(t) => Verdict::Conflict(lowest_terms(t.n, t.m)),
+        None => Verdict::Clear(ClearSides::Lower),
     }
 }
 
-fn two_sided_verdict(lower: Moment, upper: Moment) -> Verdict
+fn two_sided_verdict(lower: Option<Instant>, upper: Option<Instant>) -> Verdict
     ensures { result ≡ two_sided_verdict lower upper }
 {
-    match lower {
-        Moment::At(t) => match upper {
-            Moment::At(u) => {
-                let second = lowest_terms(u.n, u.m);
-                Verdict::Conflicts(lowest_terms(t.n, t.m), second)
-            }
-            Moment::Never => Verdict::Clear(ClearSides::Upper),
-        },
-        Moment::Never => match upper {
-            Moment::At(_) => Verdict::Clear(ClearSides::Lower),
-            Moment::Never => Verdict::Clear(ClearSides::Both),
-        },
+    match (lower, upper) {
+        (Some(t), Some(u)) => Verdict::Conflicts(lowest_terms(t.n, t.m), lowest_terms(u.n, u.m)),
+        (Some(_), None) => Verdict::Clear(ClearSides::Upper),
+        (None, Some(_)) => Verdict::Clear(ClearSides::Lower),
+        (None, None) => Verdict::Clear(ClearSides::Both),
     }
 }
 
 // The verdict where the window is empty.
 fn empty_verdict(question: Question) -> Verdict
-    ensures { result ≡ verdict_of question Never Never }
+    ensures { result ≡ verdict_of question None None }
 {
     if two_sided(question) {
         return Verdict::Clear(ClearSides::Both);
@@ -72,28 +62,38 @@ fn empty_verdict(question: Question) -> Verdict
 }
 
 // The verdict where the window opens at a start.
-fn open_verdict(question: Question, s: SensedQuestion, start: Instant) -> Verdict
-    requires sized { Sized Lower s }
-    requires sized_2 { two_sided question ≡ true → Sized Upper s }
-    requires s_value { opening s ≡ At start }
-    ensures { result ≡ verdict question s }
+fn open_verdict(question: Question, s: SizedQuestion, start: Instant) -> Verdict
+    requires upper_sizes { two_sided question ≡ true → UpperSizes s.sensed }
+    requires opens { opening s.sensed ≡ Some start }
+    ensures { result ≡ verdict question s.sensed }
 {
-    let lower = time_shown(Side::Lower, s, start);
+    let lower = time_shown(
+        SideQuestion {
+            side: Side::Lower,
+            question: s,
+        },
+        start,
+    );
     if two_sided(question) {
-        let upper = time_shown(Side::Upper, s, start);
+        let upper = time_shown(
+            SideQuestion {
+                side: Side::Upper,
+                question: s,
+            },
+            start,
+        );
         return two_sided_verdict(lower, upper);
     }
     one_sided_verdict(lower)
 }
 
 // The verdict on an accepted question.
-pub fn verdict_on(encounter: Encounter, settings: Settings, question: Question) -> Verdict
-    requires { refusal encounter settings question ≡ Accepted }
-    ensures { result ≡ verdict question (sensed_question encounter settings question) }
+pub fn verdict_on(asked: AcceptedQuestion) -> Verdict
+    ensures { result ≡ verdict asked.question (sensed_question asked.encounter asked.settings asked.question) }
 {
-    let s = sensed_question(encounter, settings, question);
+    let s = sensed_question(asked);
     match opening(s) {
-        Moment::Never => empty_verdict(question),
-        Moment::At(start) => open_verdict(question, s, start),
+        None => empty_verdict(asked.question),
+        Some(start) => open_verdict(asked.question, s, start),
     }
 }

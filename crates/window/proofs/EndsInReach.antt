@@ -1,4 +1,6 @@
 -- The window's ends are small: the comparisons at them fit 64 bits. Assumes nothing.
+use Rattle.std.specs.Prelude.{None, Option, Some}
+use Rattle.std.specs.Option.{option_to_list}
 use mathlib.Core.Path.{◌≡◌, refl, sym, subst}
 use mathlib.Core.List.{[], ◌∷◌}
 use Prim.Native.Nat.{ℕ, zero, suc, ◌≤◌}
@@ -14,12 +16,10 @@ use Rattle.instant.specs.declared.Instant.{Instant}
 use Rattle.instant.specs.Order.{◌÷◌, earlier}
 use Rattle.instant.specs.inner.Sizes.{SizedInstant}
 use Rattle.instant.proofs.TimeOrder.{earlier_elim}
-use Rattle.path.specs.declared.Limit.{Limit}
-use Rattle.path.specs.declared.Limit.TheVariants.{Unlimited, Upto}
 use Rattle.path.specs.declared.SensedQuestion.{SensedQuestion}
 use Rattle.path.specs.declared.Side.TheVariants.{Lower}
 use Rattle.path.specs.Window.{start_of, exit_of, end_of, window_start, window_end}
-use Rattle.path.specs.Instants.{Among, as_list}
+use Rattle.path.specs.Instants.{Among}
 use Rattle.path.specs.inner.Sizes.{LimitSize, Sizes, farthest, InReach}
 use Rattle.path.proofs.Membership.{among_one}
 use Rattle.window.proofs.CodeEnds.{moving_start}
@@ -49,11 +49,11 @@ exit_near c p r hc hp hr = record {
 pub second_near : (L : ℕ) → L ≤ max_limit → Near (L ÷ 1)
 second_near L h = record { n_hi = omega arith; m_lo = omega arith; m_hi = omega arith }
 
-end_near : (c p : ℕ) (r : ℤ) (l : Limit) → c ≤ max_closing_speed → p ≤ max_radius → r ≤ℤ pos max_distance → LimitSize l → (t : Instant) → Among t (as_list (end_of c r p l)) → Near t
-end_near zero p r Unlimited hc hp hr hl t i = absurd i
-end_near zero p r (Upto L) hc hp hr hl t i = among_one Near (L ÷ 1) t (second_near L hl) i
-end_near (suc c) p r Unlimited hc hp hr hl t i = among_one Near (max0 (r +ℤ pos p) ÷ suc c) t (exit_near c p r hc hp hr) i
-end_near (suc c) p r (Upto L) hc hp hr hl t i = among_one Near (earlier (max0 (r +ℤ pos p) ÷ suc c) (L ÷ 1)) t
+end_near : (c p : ℕ) (r : ℤ) (l : Option ℕ) → c ≤ max_closing_speed → p ≤ max_radius → r ≤ℤ pos max_distance → LimitSize l → (t : Instant) → Among t (option_to_list (end_of c r p l)) → Near t
+end_near zero p r None hc hp hr hl t i = absurd i
+end_near zero p r (Some L) hc hp hr hl t i = among_one Near (L ÷ 1) t (second_near L hl) i
+end_near (suc c) p r None hc hp hr hl t i = among_one Near (max0 (r +ℤ pos p) ÷ suc c) t (exit_near c p r hc hp hr) i
+end_near (suc c) p r (Some L) hc hp hr hl t i = among_one Near (earlier (max0 (r +ℤ pos p) ÷ suc c) (L ÷ 1)) t
     (earlier_elim (max0 (r +ℤ pos p) ÷ suc c) (L ÷ 1) Near (λ _. exit_near c p r hc hp hr) (λ _. second_near L hl)) i
 
 -- ---- and from a question
@@ -71,5 +71,5 @@ module _ (s : SensedQuestion) (z : Sizes s) where
   pub moving_start_near : ¬ (s.closing_speed ≡ 0) → Near (max0 (s.distance -ℤ pos s.radius) ÷ s.closing_speed)
   moving_start_near h = subst Near (sym (moving_start s.radius s.distance s.closing_speed h)) window_start_near
 
-  pub window_end_near : (t : Instant) → Among t (as_list (window_end s)) → Near t
+  pub window_end_near : (t : Instant) → Among t (option_to_list (window_end s)) → Near t
   window_end_near = end_near s.closing_speed s.radius s.distance s.limit z.c_hi z.p_hi z.r_hi z.limit_hi

@@ -1,136 +1,107 @@
-// The window at an instant n/m, its first time and its end: exact 64-bit code for the definitions of `path`.
+// The window at an instant, its first time and its end: exact 64-bit code for the definitions of `path`.
 // Locals bear document 01's letters (`path`, specs/Letters.antt).
 #![tactic(auto)]
 
-ghost use Rattle.std.specs.Prelude.{◌≡◌, ◌<◌, ◌^◌, nat_abs};
+ghost use Rattle.std.specs.Prelude.{◌≡◌, nat_abs};
 ghost use Rattle.integers.specs.Extremes.{max0};
 ghost use Rattle.path.specs.declared.Side.TheVariants.{Lower};
 ghost use Rattle.path.specs.Letters.{r, c, p};
 ghost use Rattle.path.specs.Window.{distance_at, exit_of, window_end};
 ghost use Rattle.path.specs.inner.Tests.{in_time, in_window, opening};
-ghost use Rattle.path.specs.inner.Sizes.{LimitSize, Sizes, InReach};
+ghost use Rattle.path.specs.inner.Sizes.{LimitSize, InReach};
 
-use instant::{Instant, Moment, earlier};
-use path::{Limit, SensedQuestion};
+use instant::{Instant, earlier};
+use path::SizedQuestion;
 
 // max(0, x)
 pub fn positive_part(x: i64) -> u64
     ensures { result ≡ max0 x }
 {
-    if x < 0 {
-        return 0;
-    }
-    x as u64
+    x.max(0) as u64
 }
 
 // |x|
 pub fn absolute(x: i64) -> u64
-    requires { nat_abs x < 2 ^ 63 }
     ensures { result ≡ nat_abs x }
 {
-    if x < 0 {
-        return (-x) as u64;
-    }
-    x as u64
+    x.unsigned_abs()
 }
 
-// Is n/m no later than the limit?
-fn in_time(limit: Limit, n: u64, m: u64) -> bool
+// Is the instant no later than the limit?
+fn in_time(limit: Option<u64>, t: Instant) -> bool
     requires limit_size { LimitSize limit }
-    requires in_reach { InReach Lower n m }
-    ensures { result ≡ in_time limit n m }
+    requires in_reach { InReach Lower t.n t.m }
+    ensures { result ≡ in_time limit t.n t.m }
 {
     match limit {
-        Limit::Unlimited => true,
-        Limit::Upto(last) => n <= last * m,
+        None => true,
+        Some(last) => t.n <= last * t.m,
     }
 }
 
-// r − c·t, times m.
-pub fn distance_at(s: SensedQuestion, n: u64, m: u64) -> i64
-    requires sizes { Sizes s }
-    requires in_reach { InReach Lower n m }
-    ensures { result ≡ distance_at s n m }
+// r − c·t, times the instant's divisor.
+pub fn distance_at(question: SizedQuestion, t: Instant) -> i64
+    requires { InReach Lower t.n t.m }
+    ensures { result ≡ distance_at question.sensed t.n t.m }
 {
-    let r = s.distance;
-    let c = s.closing_speed as i64;
-    let n = n as i64;
-    let m = m as i64;
+    let r = question.sensed.distance;
+    let c = question.sensed.closing_speed as i64;
+    let n = t.n as i64;
+    let m = t.m as i64;
     r * m - c * n
 }
 
-// Is n/m in the window? Its edges count, and so does the limit itself.
-pub fn in_window(s: SensedQuestion, n: u64, m: u64) -> bool
-    requires sizes { Sizes s }
-    requires in_reach { InReach Lower n m }
-    ensures { result ≡ in_window s n m }
+// Is the instant in the window? Its edges count, and so does the limit itself.
+#[tactic(auto, unfolding(path::specs::inner::Tests::in_window))]
+pub fn in_window(question: SizedQuestion, t: Instant) -> bool
+    requires { InReach Lower t.n t.m }
+    ensures { result ≡ in_window question.sensed t.n t.m }
 {
-    let ahead = distance_at(s, n, m);
-    let apart = absolute(ahead);
-    let p = s.radius;
-    if p * m < apart {
-        return false;
-    }
-    let limit = s.limit;
-    in_time(limit, n, m)
+    let s = question.sensed;
+    let ahead = distance_at(question, t);
+    absolute(ahead) <= s.radius * t.m && in_time(s.limit, t)
 }
 
 // The window's first time: none where the intruder has passed, stands still outside the puck's radius, or comes there after the limit.
-pub fn opening(s: SensedQuestion) -> Moment
-    requires { Sizes s }
-    ensures { result ≡ opening s }
+pub fn opening(question: SizedQuestion) -> Option<Instant>
+    ensures { result ≡ opening question.sensed }
 {
+    let s = question.sensed;
     let r = s.distance;
     let p = s.radius as i64;
     if r + p < 0 {
-        return Moment::Never;
+        return None;
     }
     let ahead = positive_part(r - p);
     let c = s.closing_speed;
     if c == 0 {
-        if ahead == 0 {
-            return Moment::At(Instant { n: 0, m: 1 });
-        }
-        return Moment::Never;
+        return (ahead == 0).then_some(Instant { n: 0, m: 1 });
     }
-    let limit = s.limit;
-    if in_time(limit, ahead, c) {
-        return Moment::At(Instant { n: ahead, m: c });
-    }
-    Moment::Never
+    let start = Instant { n: ahead, m: c };
+    in_time(s.limit, start).then_some(start)
 }
 
 // Where the intruder leaves the puck's radius, for a closing speed above 0.
-fn window_exit(s: SensedQuestion) -> Instant
-    requires { Sizes s }
-    ensures { result ≡ exit_of (c s) (r s) (p s) }
+fn window_exit(question: SizedQuestion) -> Instant
+    ensures { result ≡ exit_of (c question.sensed) (r question.sensed) (p question.sensed) }
 {
-    let c = s.closing_speed;
+    let s = question.sensed;
     let r = s.distance;
     let p = s.radius as i64;
-    let n = positive_part(r + p);
-    Instant { n: n, m: c }
+    Instant {
+        n: positive_part(r + p),
+        m: s.closing_speed,
+    }
 }
 
-pub fn window_end(s: SensedQuestion) -> Moment
-    requires { Sizes s }
-    ensures { result ≡ window_end s }
+// Its end: its exit or the limit, whichever is earlier, or none.
+pub fn window_end(question: SizedQuestion) -> Option<Instant>
+    ensures { result ≡ window_end question.sensed }
 {
-    let c = s.closing_speed;
-    let limit = s.limit;
-    match limit {
-        Limit::Unlimited => {
-            if c == 0 {
-                return Moment::Never;
-            }
-            Moment::At(window_exit(s))
-        }
-        Limit::Upto(last) => {
-            let end = Instant { n: last, m: 1 };
-            if c == 0 {
-                return Moment::At(end);
-            }
-            Moment::At(earlier(window_exit(s), end))
-        }
+    match (question.sensed.closing_speed, question.sensed.limit) {
+        (0, None) => None,
+        (0, Some(last)) => Some(Instant { n: last, m: 1 }),
+        (_, None) => Some(window_exit(question)),
+        (_, Some(last)) => Some(earlier(window_exit(question), Instant { n: last, m: 1 })),
     }
 }

@@ -3,6 +3,6 @@ use borrow.Author.Rules.{rules}
 use lib.Ieee.{of_bits, of_int}
 use Rattle.binding.proofs.flat_point.Goals as goal
 
-pub returns-in-Refused : goal.returns-in-Refused
+pub returns-in-Err : goal.returns-in-Err
 unfolding of_bits of_int
-returns-in-Refused c = search rules
+returns-in-Err c = search rules

@@ -1,12 +1,16 @@
 -- `binding_c::judge_plain` meets its contract: the numbers are kept as they are.
+use Rattle.question.specs.declared.Encounter.{Encounter}
+use Rattle.question.specs.declared.Settings.{Settings}
+use Rattle.question.specs.declared.Question.{Question}
 use Rattle.judge.specs.Answers.{answer}
 use Rattle.binding.specs.Flat.{flat_answer}
-use Rattle.binding.proofs.StoredNumbers.{stored_result}
+use Rattle.binding.specs.declared.JudgeResult.{JudgeResult}
+use Rattle.binding.proofs.StoredNumbers.{same_result, stored_result}
 use Rattle.binding_c.proofs.judge_plain.Goals as goal
 
 pub returns : goal.returns
 returns c =
     let f = c.ranges in
-    stored_result f.r f.h f.c f.v f.vi f.p f.k f.e f.sides f.sense f.target f.upper_target f.strength f.upper_strength f.delay f.limit
-    (λ x y z. flat_answer (answer x y z))
-    c.judge_plain.ensures
+    let of : Encounter → Settings → Question → JudgeResult = λ x y z. flat_answer (answer x y z) in
+    stored_result f.r f.h f.c f.v f.vi f.p f.k f.e f.sides f.sense f.target f.upper_target f.strength f.upper_strength f.delay f.limit of
+    (same_result of c.judge_plain.ensures c.plain_encounter.ensures c.plain_settings.ensures c.plain_question.ensures)

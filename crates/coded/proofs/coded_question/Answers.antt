@@ -4,4 +4,4 @@ use Rattle.advisory.proofs.Limits.{in_limits}
 use Rattle.coded.proofs.coded_question.Goals as goal
 
 pub instructed-requires : goal.instructed-requires
-instructed-requires c = in_limits c.args.code c.ranges.code.fits c.in-Judged.i (sym c.in-Judged.ensures)
+instructed-requires c = in_limits c.args.code c.ranges.code.fits c.in_ok-instruction.instruction (sym c.in_ok-instruction.ensures)

@@ -5,25 +5,28 @@ use Rattle.integers.proofs.Machine.{fits, plain}
 use Rattle.conflict.proofs.Fields.{read_call, numbers, lower_comparison, upper_comparison, read_edge_height}
 use Rattle.conflict.proofs.delay_not_beyond.Goals as goal
 
+pub overflow_mul-edge-2 : goal.overflow_mul-edge-2
+overflow_mul-edge-2 c = let h = c.requires in fits (search numbers depth 20) tt
+
 pub overflow_mul-edge-3 : goal.overflow_mul-edge-3
 overflow_mul-edge-3 c =
-    let z = c.requires.sizes in
-    let h = c.requires.in_reach in
-    let edge = read_edge_height c.args.s c.requires.sizes c.args.side c.edge_height-edge.ensures in
+    let z = c.args.asked.question.sizes in
+    let h = c.requires in
+    let edge = read_edge_height c.args.asked c.edge_height-edge.ensures in
     fits (search numbers depth 20) tt
 
 pub returns-in-Lower : goal.returns-in-Lower
 returns-in-Lower c =
-    let z = c.requires.sizes in
-    let h = c.requires.in_reach in
+    let z = c.args.asked.question.sizes in
+    let h = c.requires in
     let height = read_call (sfits_of c.delay_height-height.type_inv) c.delay_height-height.ensures in
-    let edge = read_edge_height c.args.s c.requires.sizes c.args.side c.edge_height-edge.ensures in
+    let edge = read_edge_height c.args.asked c.edge_height-edge.ensures in
     plain (search numbers depth 20) tt ∙ lower_comparison _ _ c.in-Lower.is
 
 pub returns-in-Upper : goal.returns-in-Upper
 returns-in-Upper c =
-    let z = c.requires.sizes in
-    let h = c.requires.in_reach in
+    let z = c.args.asked.question.sizes in
+    let h = c.requires in
     let height = read_call (sfits_of c.delay_height-height.type_inv) c.delay_height-height.ensures in
-    let edge = read_edge_height c.args.s c.requires.sizes c.args.side c.edge_height-edge.ensures in
+    let edge = read_edge_height c.args.asked c.edge_height-edge.ensures in
     plain (search numbers depth 20) tt ∙ upper_comparison _ _ c.in-Upper.is

@@ -12,13 +12,13 @@ use Rattle.conflict.proofs.positive_difference.Goals as goal
 
 pub overflow_cast-result-2 : goal.overflow_cast-result-2
 overflow_cast-result-2 c =
-    let h = c.requires.q_bound in
-    let k = c.requires.u_bound in
+    let h = c.requires.q_in_range in
+    let k = c.requires.u_in_range in
     let f = computed_fits c.args.q c.args.u h k in
     (subst (λ (z : ℤ). T (non_neg z)) (sym (computed_is c.args.q c.args.u h k)) tt, Fits-nat_abs tt (subst (SFits w64) (sym (to_z-of_z f)) f))
 
 pub returns : goal.returns
 returns c =
-    let h = c.requires.q_bound in
-    let k = c.requires.u_bound in
+    let h = c.requires.q_in_range in
+    let k = c.requires.u_in_range in
     omega (arith, ap nat_abs (computed_is c.args.q c.args.u h k))

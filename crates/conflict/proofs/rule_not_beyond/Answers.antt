@@ -6,20 +6,20 @@ use Rattle.conflict.proofs.Divided.{arc_divided, straight_divided}
 use Rattle.conflict.proofs.Fields.{bend_size}
 use Rattle.conflict.proofs.rule_not_beyond.Goals as goal
 
-pub arc_not_beyond-requires-clause-n_bound : goal.arc_not_beyond-requires-clause-n_bound
-arc_not_beyond-requires-clause-n_bound c =
+pub arc_not_beyond-requires-clause-before_straight : goal.arc_not_beyond-requires-clause-before_straight
+arc_not_beyond-requires-clause-before_straight c =
     let z = c.requires.rule_sizes in
-    let g = c.requires.rule_bound in
+    let g = c.requires.missing_within in
     let h = c.requires.in_reach in
-    bend_size c.args.side _ _ c.args.n c.args.m g h (rw c.missing_speed-gap.ensures at c.if-a-n.true)
+    bend_size c.args.side _ _ c.args.since.n c.args.since.m g h (rw c.missing_speed-gap.ensures at c.if-rule-since.true)
 
-pub returns-then-a-n : goal.returns-then-a-n
-returns-then-a-n c =
+pub returns-then-rule-since : goal.returns-then-rule-since
+returns-then-rule-since c =
     c.arc_not_beyond.ensures
-    ∙ arc_divided c.args.side c.args.rule c.args.n c.args.m c.requires.rule_sizes.strength_lo (rw c.missing_speed-gap.ensures at c.if-a-n.true)
+    ∙ arc_divided c.args.side c.args.rule c.args.since.n c.args.since.m c.requires.rule_sizes.strength_lo (rw c.missing_speed-gap.ensures at c.if-rule-since.true)
 
 pub returns : goal.returns
 returns c =
-    ◌∙◌ {b = straight_not_beyond c.args.side c.args.rule c.args.n c.args.m}
+    ◌∙◌ {b = straight_not_beyond c.args.side c.args.rule c.args.since.n c.args.since.m}
     c.straight_not_beyond.ensures
-    (straight_divided c.args.side c.args.rule c.args.n c.args.m c.requires.in_reach.m_lo (rw c.missing_speed-gap.ensures at c.if-a-n.false))
+    (straight_divided c.args.side c.args.rule c.args.since.n c.args.since.m c.requires.in_reach.m_lo (rw c.missing_speed-gap.ensures at c.if-rule-since.false))

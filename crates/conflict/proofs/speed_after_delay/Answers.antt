@@ -17,14 +17,20 @@ bend-speed : (side : Side) (s : SensedQuestion) → u s +ℤ bend side s *ℤ po
 bend-speed Lower s = ring (e s ∷ d s ∷ []) (u s ∷ []) (λ v. search quote depth 20) tt
 bend-speed Upper s = refl
 
+pub overflow_mul-result : goal.overflow_mul-result
+overflow_mul-result c =
+    let z = c.args.question.sizes in
+    let bend = read_bend c.args.side c.args.question c.delay_bend-bend.ensures in
+    fits (search numbers depth 20) tt
+
 pub overflow_add-result : goal.overflow_add-result
 overflow_add-result c =
-    let z = c.requires in
-    let bend = read_bend c.args.s c.requires c.args.side c.delay_bend-bend.ensures in
+    let z = c.args.question.sizes in
+    let bend = read_bend c.args.side c.args.question c.delay_bend-bend.ensures in
     fits (search numbers depth 20) tt
 
 pub returns : goal.returns
 returns c =
-    let z = c.requires in
-    let bend = read_bend c.args.s c.requires c.args.side c.delay_bend-bend.ensures in
-    result (search numbers depth 20) tt ∙ bend-speed c.args.side c.args.s
+    let z = c.args.question.sizes in
+    let bend = read_bend c.args.side c.args.question c.delay_bend-bend.ensures in
+    result (search numbers depth 20) tt ∙ bend-speed c.args.side c.args.question.sensed

@@ -1,7 +1,7 @@
 -- Definitions that only inner contracts use; an instructor need not read them.
 -- Both answers as tests that compute: whether a flight obeys, and the least whole second in which it is inside the puck. They are the statements of
 -- Obeying.antt and Inside.antt (`proofs/ObeyingTests.antt`, `proofs/InsideTests.antt`).
-use Rattle.std.specs.Prelude.{Bool, true, false, cond, ◌&&◌, ◌||◌, List, ℕ, zero, suc, ◌*◌, leb, ltb, ℤ, pos, neg_ℤ, ◌+ℤ◌, ◌*ℤ◌, nat_abs}
+use Rattle.std.specs.Prelude.{Bool, true, false, cond, ◌&&◌, ◌||◌, List, ℕ, zero, suc, ◌*◌, leb, ltb, ℤ, pos, neg_ℤ, ◌+ℤ◌, ◌*ℤ◌, nat_abs, None, Option, Some}
 use Rattle.std.specs.Int.Signed.{le_z, lt_z}
 use Rattle.path.specs.declared.SensedQuestion.{SensedQuestion}
 use Rattle.path.specs.Letters.{c, p, k, u, q, a, d, e}
@@ -9,8 +9,6 @@ use Rattle.path.specs.Window.{distance_at}
 use Rattle.flight.specs.declared.Stretch.{Stretch}
 use Rattle.flight.specs.declared.Part.{Part}
 use Rattle.flight.specs.declared.Part.TheVariants.{Nowhere, FromTo, From}
-use Rattle.flight.specs.declared.PuckEntry.{PuckEntry}
-use Rattle.flight.specs.declared.PuckEntry.TheVariants.{Never, During}
 use Rattle.flight.specs.Flight.{duration, acceleration_at, stretch_height, speed_at, height_at}
 use Rattle.flight.specs.Inside.{height_apart}
 use Rattle.flight.specs.inner.Parts.{near_part, band_from, band_to}
@@ -69,11 +67,11 @@ inside_second s l n =
     (inside_at s l n)
 
 -- the first of f seconds from n on
-unfoldable pub inside_from : SensedQuestion → List Stretch → ℕ → ℕ → PuckEntry
+unfoldable pub inside_from : SensedQuestion → List Stretch → ℕ → ℕ → Option ℕ
 unfolding inside_second
-inside_from s l zero n = Never
-inside_from s l (suc f) n = let later = inside_from s l f (suc n) in cond (inside_second s l n) (During n) later
+inside_from s l zero n = None
+inside_from s l (suc f) n = let later = inside_from s l f (suc n) in cond (inside_second s l n) (Some n) later
 
-unfoldable pub first_inside : SensedQuestion → List Stretch → PuckEntry
+unfoldable pub first_inside : SensedQuestion → List Stretch → Option ℕ
 unfolding inside_from
 first_inside s l = inside_from s l (suc (duration l)) 0

@@ -1,9 +1,9 @@
--- Whole cases alone are read, and it ends: each case takes some of the bytes.
-use Rattle.std.proofs.Common.{◌+◌, ◌-◌, ◌≤◌, length}
+-- Each case is counted once, and takes some of the numbers.
+use Rattle.std.proofs.Common.{◌+◌, ◌/◌, ◌≤◌, length}
 use Rattle.flights.proofs.report_on.Given as goal
 
-abbrev pub invariant-loop-size : goal.invariant-loop-size
-invariant-loop-size l = l.at + l.size ≤ length l.bytes
+abbrev pub invariant-loop-case : goal.invariant-loop-case
+invariant-loop-case l = l.report.flights + length l.rest ≤ length l.bytes / 8
 
-abbrev pub decreases-loop-size : goal.decreases-loop-size
-decreases-loop-size l = length l.bytes - l.at
+abbrev pub decreases-loop-case : goal.decreases-loop-case
+decreases-loop-case l = length l.rest

@@ -1,4 +1,4 @@
--- `instant::short_gcd` meets its contract: as for `gcd`, and where y is 1 the last step is known, since gcd(x, 1) computes to 1.
+-- `instant::short_gcd` meets its contract: each turn of the loop is a step of `gcd`, and keeps its value. The measure is y.
 use mathlib.Core.Path.{◌≡◌}
 use Rattle.instant.specs.Lowest.{gcd}
 use Rattle.instant.proofs.short_gcd.Given as goal

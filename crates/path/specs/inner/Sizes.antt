@@ -1,18 +1,22 @@
 -- Definitions that only inner contracts use; an instructor need not read them.
 -- The sizes that a sensed question has where document 01's limits hold (`limits`): the inner functions ask for them, and whoever calls these shows them
 -- from the refusals.
-use Rattle.std.specs.Prelude.{ℕ, ◌+◌, ◌*◌, ◌≤◌, pos, neg_ℤ, ◌-ℤ◌, ◌≤ℤ◌}
+use Rattle.std.specs.Prelude.{ℕ, ◌+◌, ◌*◌, ◌≤◌, pos, neg_ℤ, ◌-ℤ◌, ◌≤ℤ◌, None, Option, Some}
+use Rattle.std.specs.Coded.{Unit-prop, le_prop}
 use Rattle.limits.specs.Limits.{max_distance, max_height, max_closing_speed, max_speed, max_radius, max_half_height, min_strength, max_strength, max_delay_acceleration, max_delay, max_limit}
-use Rattle.path.specs.declared.Limit.{Limit}
-use Rattle.path.specs.declared.Limit.TheVariants.{Unlimited, Upto}
 use Rattle.path.specs.declared.SensedQuestion.{SensedQuestion}
 use Rattle.path.specs.declared.Side.{Side}
 use Rattle.path.specs.declared.Side.TheVariants.{Lower, Upper}
 use Rattle.path.specs.Letters.{r, c, p, k, wh, u, q, a, d, e, upper_q, b}
 
-abbrev pub LimitSize : Limit → Type 0
-LimitSize Unlimited = Unit {0}
-LimitSize (Upto L) = L ≤ max_limit
+abbrev pub LimitSize : Option ℕ → Type 0
+LimitSize None = Unit {0}
+LimitSize (Some L) = L ≤ max_limit
+
+-- it has one proof at most, as a fact that a type keeps must
+pub LimitSize-prop : (l : Option ℕ) → IsProp (LimitSize l)
+LimitSize-prop None = Unit-prop
+LimitSize-prop (Some L) = le_prop
 
 -- u and q are differences of two speeds, and so is the change from u to q
 abbrev pub max_speed_difference : ℕ

@@ -1,11 +1,8 @@
 -- Definitions that only inner contracts use; an instructor need not read them.
 -- The window and conflict once more, as tests that compute; and the window's first time.
-use Rattle.std.specs.Prelude.{Bool, true, cond, ◌&&◌, ℕ, ◌*◌, leb, nat_abs}
+use Rattle.std.specs.Prelude.{Bool, true, ◌&&◌, ℕ, ◌*◌, leb, nat_abs, None, Option, Some}
+use Rattle.std.specs.Bool.{then_some}
 use Rattle.std.specs.Int.Signed.{le_z}
-use Rattle.instant.specs.declared.Moment.{Moment}
-use Rattle.instant.specs.declared.Moment.TheVariants.{At, Never}
-use Rattle.path.specs.declared.Limit.{Limit}
-use Rattle.path.specs.declared.Limit.TheVariants.{Unlimited, Upto}
 use Rattle.path.specs.declared.SensedQuestion.{SensedQuestion}
 use Rattle.path.specs.declared.Side.{Side}
 use Rattle.path.specs.declared.Side.TheVariants.{Lower, Upper}
@@ -13,11 +10,12 @@ use Rattle.path.specs.Letters.{p}
 use Rattle.path.specs.Paths.{advice_gain, delay_height, continued, lower_path, upper_path}
 use Rattle.path.specs.Window.{distance_at, window_start}
 use Rattle.path.specs.Conflict.{lower_edge, upper_edge}
+use Rattle.instant.specs.declared.Instant.{Instant}
 
 -- the tests of `InTime`, `Window`, `NotBeyond` and `Conflict`
-abbrev pub in_time : Limit → ℕ → ℕ → Bool
-in_time Unlimited n m = true
-in_time (Upto L) n m = leb n (L * m)
+abbrev pub in_time : Option ℕ → ℕ → ℕ → Bool
+in_time None n m = true
+in_time (Some L) n m = leb n (L * m)
 
 unfoldable pub in_window : SensedQuestion → ℕ → ℕ → Bool
 in_window s n m = leb (nat_abs (distance_at s n m)) (p s * m) && in_time s.limit n m
@@ -32,6 +30,6 @@ unfolding in_window not_beyond
 in_conflict side s n m = in_window s n m && not_beyond side s n m
 
 -- The window's first time: its start, or none where the window does not hold it, as then it is empty.
-unfoldable pub opening : SensedQuestion → Moment
+unfoldable pub opening : SensedQuestion → Option Instant
 unfolding in_window
-opening s = cond (in_window s (window_start s).n (window_start s).m) (At (window_start s)) Never
+opening s = then_some (in_window s (window_start s).n (window_start s).m) (window_start s)

@@ -9,4 +9,4 @@ use Rattle.pieces.proofs.piece_at.Goals as goal
 pub no_later-requires : goal.no_later-requires
 no_later-requires c =
     let y = c in
-    (subst (λ (p : WholePiece). SizedInstant p.from) (sym c.last_piece-last.ensures) (last_from_sized y.args.s y.requires.sizes), record { n = omega (arith, y.requires.second_le_last_second); m = omega arith })
+    (subst (λ (p : WholePiece). SizedInstant p.from) (sym c.last_piece-last.ensures) (last_from_sized y.args.question.sensed y.args.question.sizes), record { n = omega (arith, y.requires); m = omega arith })

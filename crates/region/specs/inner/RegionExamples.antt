@@ -1,11 +1,10 @@
 -- Definitions that only proofs and inner contracts use; an instructor need not read them.
 -- The M examples that Figures 3 and 5 speak of, picked from the judge's table by a test, and what the figures say of each.
-use Rattle.std.specs.Prelude.{◌≡◌, Bool, true, false, not, ◌&&◌, eqb, pos}
+use Rattle.std.specs.Prelude.{◌≡◌, Bool, true, false, not, ◌&&◌, eqb, pos, Err, Ok, Result}
 use Rattle.std.proofs.Math.Bool.{Bool-discrete}
 use mathlib.Core.List.{List, filter}
 use Rattle.path.specs.declared.SensedQuestion.{SensedQuestion}
 use Rattle.question.specs.declared.Question.{Question}
-use Rattle.coded.specs.declared.CodedQuestion.{CodedQuestion}
 use Rattle.question.specs.StartingSettings.{starting_settings}
 use Rattle.question.specs.Refusals.{is_number, two_sided}
 use Rattle.limits.specs.Limits.{no_limit}
@@ -13,6 +12,7 @@ use Rattle.sensed.specs.Sensed.{sensed_question}
 use Rattle.judge.specs.Examples.{Example, examples}
 use Rattle.region.specs.Formula.{Formula}
 use Rattle.region.specs.inner.Holds.{holds}
+use Rattle.question.specs.declared.refusal.Refusal.{Refusal}
 
 -- Figure 5: one-sided, no limit; Figure 3: also no delay
 abbrev pub delayed_allowed : Question → Bool
@@ -22,9 +22,9 @@ abbrev pub immediate_allowed : Question → Bool
 immediate_allowed z = delayed_allowed z && is_number (pos 0) z.delay
 
 -- a question is asked, by code or freely, and passes the test
-abbrev pub asks : (Question → Bool) → CodedQuestion → Bool
-asks test (CodedQuestion.Asked z) = test z
-asks test (CodedQuestion.Refused n) = false
+abbrev pub asks : (Question → Bool) → Result Question Refusal → Bool
+asks test (Ok z) = test z
+asks test (Err n) = false
 
 abbrev pub examples_with : (Question → Bool) → List Example
 examples_with test = filter {p = λ (m : Example). asks test m.question ≡ true} (λ m. Bool-discrete (asks test m.question) true) examples

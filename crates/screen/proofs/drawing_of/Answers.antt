@@ -1,7 +1,7 @@
 -- `screen::drawing_of` meets its contract: the delay is left out exactly if d is 0, the arc exactly if G is 0.
 use mathlib.Core.Path.{◌≡◌, sym, ap, ap₂, subst, ◌∙◌}
 use mathlib.Core.Bool.{Bool, true, false}
-use mathlib.Core.List.{[], ◌∷◌}
+use mathlib.Core.List.{List, [], ◌∷◌}
 use Prim.Native.Nat.{ℕ}
 use lib.Dec.{eqb}
 use borrow.Author.Tests.{eq-eqb, ne_eqb}
@@ -11,7 +11,7 @@ use Rattle.pieces.specs.Pieces.{missing_speed, delay_piece, arc_piece, last_piec
 use Rattle.pieces.specs.inner.PieceSizes.{PieceSizes}
 use Rattle.pieces.proofs.Fields.{delay_sizes, arc_sizes, last_sizes}
 use Rattle.screen.specs.declared.DrawnPiece.{DrawnPiece}
-use Rattle.screen.specs.Drawings.{drawn_piece, all_drawn, drawn_pieces, drawn}
+use Rattle.screen.specs.Drawings.{drawn_piece, all_drawn, drawn_pieces}
 use Rattle.screen.proofs.drawing_of.Goals as goal
 
 -- the pieces by the two tests
@@ -26,41 +26,41 @@ no_gap s e z = eq-eqb _ 0 (sym e ∙ z)
 some_gap : (s : SensedQuestion) {g : ℕ} → g ≡ missing_speed s → ¬ (g ≡ 0) → eqb (missing_speed s) 0 ≡ false
 some_gap s e z = ne_eqb _ 0 (λ f. z (e ∙ f))
 
-same_two : {p p' q q' : DrawnPiece} → p ≡ p' → q ≡ q' → drawn (p ∷ q ∷ []) ≡ drawn (p' ∷ q' ∷ [])
+same_two : {p p' q q' : DrawnPiece} → p ≡ p' → q ≡ q' → ◌≡◌ {A = List DrawnPiece} (p ∷ q ∷ []) (p' ∷ q' ∷ [])
 same_two e f = cc
 
-same_three : {p p' q q' r r' : DrawnPiece} → p ≡ p' → q ≡ q' → r ≡ r' → drawn (p ∷ q ∷ r ∷ []) ≡ drawn (p' ∷ q' ∷ r' ∷ [])
+same_three : {p p' q q' r r' : DrawnPiece} → p ≡ p' → q ≡ q' → r ≡ r' → ◌≡◌ {A = List DrawnPiece} (p ∷ q ∷ r ∷ []) (p' ∷ q' ∷ r' ∷ [])
 same_three e f g = cc
 
 pub drawn_piece-last-requires : goal.drawn_piece-last-requires
-drawn_piece-last-requires c = subst PieceSizes (sym c.last_piece.ensures) (last_sizes c.args.s c.requires)
+drawn_piece-last-requires c = subst PieceSizes (sym c.last_piece.ensures) (last_sizes c.args.s.sensed c.args.s.sizes)
 
 pub returns-then-s-eq0 : goal.returns-then-s-eq0
 returns-then-s-eq0 c =
-    ap (λ (p : DrawnPiece). drawn (p ∷ [])) (c.drawn_piece-last.ensures ∙ ap drawn_piece c.last_piece.ensures)
-    ∙ ap drawn (by_tests c.args.s true true (eq-eqb _ 0 c.if-s-eq0.true) (no_gap c.args.s c.missing_speed.ensures c.if-missing_speed-eq0.true))
+    ap (λ (p : DrawnPiece). p ∷ []) (c.drawn_piece-last.ensures ∙ ap drawn_piece c.last_piece.ensures)
+    ∙ (by_tests c.args.s.sensed true true (eq-eqb _ 0 c.if-s-eq0.true) (no_gap c.args.s.sensed c.missing_speed.ensures c.if-missing_speed-eq0.true))
 
 pub drawn_piece-requires : goal.drawn_piece-requires
-drawn_piece-requires c = subst PieceSizes (sym c.delay_piece.ensures) (delay_sizes c.args.s c.requires)
+drawn_piece-requires c = subst PieceSizes (sym c.delay_piece.ensures) (delay_sizes c.args.s.sensed c.args.s.sizes)
 
 pub returns-then-missing_speed-eq0 : goal.returns-then-missing_speed-eq0
 returns-then-missing_speed-eq0 c =
     same_two (c.drawn_piece.ensures ∙ ap drawn_piece c.delay_piece.ensures) (c.drawn_piece-last.ensures ∙ ap drawn_piece c.last_piece.ensures)
-    ∙ ap drawn (by_tests c.args.s false true (ne_eqb _ 0 c.if-s-eq0.false) (no_gap c.args.s c.missing_speed.ensures c.if-missing_speed-eq0.true))
+    ∙ (by_tests c.args.s.sensed false true (ne_eqb _ 0 c.if-s-eq0.false) (no_gap c.args.s.sensed c.missing_speed.ensures c.if-missing_speed-eq0.true))
 
 pub drawn_piece-arc-requires : goal.drawn_piece-arc-requires
-drawn_piece-arc-requires c = subst PieceSizes (sym c.arc_piece.ensures) (arc_sizes c.args.s c.requires)
+drawn_piece-arc-requires c = subst PieceSizes (sym c.arc_piece.ensures) (arc_sizes c.args.s.sensed c.args.s.sizes)
 
 pub returns-then-s-eq0-2 : goal.returns-then-s-eq0-2
 returns-then-s-eq0-2 c =
     same_two (c.drawn_piece-arc.ensures ∙ ap drawn_piece c.arc_piece.ensures) (c.drawn_piece-last.ensures ∙ ap drawn_piece c.last_piece.ensures)
-    ∙ ap drawn (by_tests c.args.s true false (eq-eqb _ 0 c.if-s-eq0-2.true) (some_gap c.args.s c.missing_speed.ensures c.if-missing_speed-eq0.false))
+    ∙ (by_tests c.args.s.sensed true false (eq-eqb _ 0 c.if-s-eq0-2.true) (some_gap c.args.s.sensed c.missing_speed.ensures c.if-missing_speed-eq0.false))
 
 pub drawn_piece-requires-2 : goal.drawn_piece-requires-2
-drawn_piece-requires-2 c = subst PieceSizes (sym c.delay_piece-2.ensures) (delay_sizes c.args.s c.requires)
+drawn_piece-requires-2 c = subst PieceSizes (sym c.delay_piece-2.ensures) (delay_sizes c.args.s.sensed c.args.s.sizes)
 
 pub returns : goal.returns
 returns c =
     same_three (c.drawn_piece-2.ensures ∙ ap drawn_piece c.delay_piece-2.ensures) (c.drawn_piece-arc.ensures ∙ ap drawn_piece c.arc_piece.ensures)
     (c.drawn_piece-last.ensures ∙ ap drawn_piece c.last_piece.ensures)
-    ∙ ap drawn (by_tests c.args.s false false (ne_eqb _ 0 c.if-s-eq0-2.false) (some_gap c.args.s c.missing_speed.ensures c.if-missing_speed-eq0.false))
+    ∙ (by_tests c.args.s.sensed false false (ne_eqb _ 0 c.if-s-eq0-2.false) (some_gap c.args.s.sensed c.missing_speed.ensures c.if-missing_speed-eq0.false))

@@ -18,14 +18,14 @@ same_point : {t h h' : Float} → h ≡ h' → ◌≡◌ {A = ScreenPoint} (reco
 same_point e = cc
 
 pub float_piece-piece-requires : goal.float_piece-piece-requires
-float_piece-piece-requires c = subst PieceSizes (sym c.piece_at.ensures) (piece_at_sizes c.args.s c.requires.sizes (c.args.second ÷ 1))
+float_piece-piece-requires c = subst PieceSizes (sym c.piece_at.ensures) (piece_at_sizes c.args.s.sensed c.args.s.sizes (c.args.second ÷ 1))
 
 pub returns : goal.returns
 unfolding point_at drawn_height
 returns c =
-    let s = c.args.s in
+    let s = c.args.s.sensed in
     let t = c.args.second in
     same_point
     (c.evaluate.ensures
     ∙ ap (λ (p : Piece). evaluated p (float (pos t))) (c.float_piece-piece.ensures ∙ ap float_piece c.piece_at.ensures)
-    ∙ evaluated_exact (piece_at s (t ÷ 1)) (piece_at_sizes s c.requires.sizes (t ÷ 1)) t c.requires.second_le_last_second)
+    ∙ evaluated_exact (piece_at s (t ÷ 1)) (piece_at_sizes s c.args.s.sizes (t ÷ 1)) t c.requires)

@@ -6,9 +6,7 @@ use Rattle.path.specs.Letters.{c, p, k, wh, q, a, d, e}
 use Rattle.path.specs.Window.{distance_at}
 use Rattle.flight.specs.inner.Parts.{near_part}
 use Rattle.flight.specs.inner.Tests.{obeys_delayed, obeys_advice, crosses}
-use Rattle.flight.specs.inner.Clamped.{most_gained, clamped}
 use Rattle.second.specs.declared.Motion.{Motion}
-use Rattle.second.specs.declared.Approach.{Approach}
 
 -- twice the height of the puck's band, from k below the intruder to k above, measured from the height at n
 module _ (s : SensedQuestion) (motion : Motion) where
@@ -18,12 +16,9 @@ module _ (s : SensedQuestion) (motion : Motion) where
   abbrev pub edge_above : ℤ
   edge_above = pos 2 *ℤ (wh s +ℤ pos (k s)) -ℤ motion.height
 
-  -- up to it, and down to it: the second is the first turned over
-  abbrev pub up_approach : Approach
-  up_approach = record { edge = clamped most_gained edge_below; speed = motion.speed; acceleration = motion.acceleration }
-
-  abbrev pub down_approach : Approach
-  down_approach = record { edge = clamped most_gained (neg_ℤ edge_above); speed = neg_ℤ motion.speed; acceleration = neg_ℤ motion.acceleration }
+-- the flight with up for down
+abbrev pub turned_over : Motion → Motion
+turned_over motion = record { height = neg_ℤ motion.height; speed = neg_ℤ motion.speed; acceleration = neg_ℤ motion.acceleration }
 
 -- ---- the tests
 module _ (s : SensedQuestion) (n : ℕ) (motion : Motion) where

@@ -1,4 +1,5 @@
 -- `sensed::sensed_motion` meets its contract: the differences of speeds within their limits fit, and so do these times w, which is +1 or −1.
+use Rattle.std.specs.Prelude.{Ok}
 use mathlib.Core.Path.{◌≡◌, sym, ap, subst, ◌∙◌}
 use lib.IntN.{ℤ, pos, neg_ℤ, ◌-ℤ◌, ◌*ℤ◌}
 use lib.Signed.{le_z_yes}
@@ -12,7 +13,6 @@ use Rattle.question.proofs.WithinLimits.{Between}
 use Rattle.question.specs.declared.Encounter.{Encounter}
 use Rattle.question.specs.declared.Settings.{Settings}
 use Rattle.question.specs.declared.Question.{Question}
-use Rattle.question.specs.declared.Checked.{Checked}
 use Rattle.question.specs.Refusals.{sense_of, refusal}
 use Rattle.sensed.specs.declared.Motion.{Motion}
 use Rattle.sensed.specs.Sensed.{sensed_motion}
@@ -31,46 +31,46 @@ read_sign w sense e =
 pub overflow_mul-result : goal.overflow_mul-result
 overflow_mul-result c =
     let s = read_sign _ _ c.sign_of-w.ensures in
-    let h = read_height c.args.encounter c.args.settings c.args.question c.requires in
+    let h = read_height c.args.asked.encounter c.args.asked.settings c.args.asked.question c.args.asked.accepted in
     fits (search machine) tt
 
 pub overflow_sub-result : goal.overflow_sub-result
 overflow_sub-result c =
-    let v = read_speed c.args.encounter c.args.settings c.args.question c.requires in
-    let i = read_intruder c.args.encounter c.args.settings c.args.question c.requires in
+    let v = read_speed c.args.asked.encounter c.args.asked.settings c.args.asked.question c.args.asked.accepted in
+    let i = read_intruder c.args.asked.encounter c.args.asked.settings c.args.asked.question c.args.asked.accepted in
     fits (search machine) tt
 
 pub overflow_mul-result-2 : goal.overflow_mul-result-2
 overflow_mul-result-2 c =
     let s = read_sign _ _ c.sign_of-w.ensures in
-    let v = read_speed c.args.encounter c.args.settings c.args.question c.requires in
-    let i = read_intruder c.args.encounter c.args.settings c.args.question c.requires in
+    let v = read_speed c.args.asked.encounter c.args.asked.settings c.args.asked.question c.args.asked.accepted in
+    let i = read_intruder c.args.asked.encounter c.args.asked.settings c.args.asked.question c.args.asked.accepted in
     fits (search machine) tt
 
 pub overflow_sub-result-2 : goal.overflow_sub-result-2
 overflow_sub-result-2 c =
-    let v = read_target c.args.encounter c.args.settings c.args.question c.requires in
-    let i = read_intruder c.args.encounter c.args.settings c.args.question c.requires in
+    let v = read_target c.args.asked.encounter c.args.asked.settings c.args.asked.question c.args.asked.accepted in
+    let i = read_intruder c.args.asked.encounter c.args.asked.settings c.args.asked.question c.args.asked.accepted in
     fits (search machine) tt
 
 pub overflow_mul-result-3 : goal.overflow_mul-result-3
 overflow_mul-result-3 c =
     let s = read_sign _ _ c.sign_of-w.ensures in
-    let v = read_target c.args.encounter c.args.settings c.args.question c.requires in
-    let i = read_intruder c.args.encounter c.args.settings c.args.question c.requires in
+    let v = read_target c.args.asked.encounter c.args.asked.settings c.args.asked.question c.args.asked.accepted in
+    let i = read_intruder c.args.asked.encounter c.args.asked.settings c.args.asked.question c.args.asked.accepted in
     fits (search machine) tt
 
 pub overflow_sub-result-3 : goal.overflow_sub-result-3
 overflow_sub-result-3 c =
-    let v = read_upper_target c.args.encounter c.args.settings c.args.question c.requires in
-    let i = read_intruder c.args.encounter c.args.settings c.args.question c.requires in
+    let v = read_upper_target c.args.asked.encounter c.args.asked.settings c.args.asked.question c.args.asked.accepted in
+    let i = read_intruder c.args.asked.encounter c.args.asked.settings c.args.asked.question c.args.asked.accepted in
     fits (search machine) tt
 
 pub overflow_mul-result-4 : goal.overflow_mul-result-4
 overflow_mul-result-4 c =
     let s = read_sign _ _ c.sign_of-w.ensures in
-    let v = read_upper_target c.args.encounter c.args.settings c.args.question c.requires in
-    let i = read_intruder c.args.encounter c.args.settings c.args.question c.requires in
+    let v = read_upper_target c.args.asked.encounter c.args.asked.settings c.args.asked.question c.args.asked.accepted in
+    let i = read_intruder c.args.asked.encounter c.args.asked.settings c.args.asked.question c.args.asked.accepted in
     fits (search machine) tt
 
 -- a stored value, and w times a stored difference
@@ -84,7 +84,7 @@ same_motion : {a a' b b' c c' d d' : ℤ} → a ≡ a' → b ≡ b' → c ≡ c'
 same_motion e f g h = cc
 
 -- what the code stores, for a w that is the sense's sign
-is_motion : (x : Encounter) (y : Settings) (q : Question) → refusal x y q ≡ Checked.Accepted → (w : ℤ) → w ≡ sign (sense_of q)
+is_motion : (x : Encounter) (y : Settings) (q : Question) → refusal x y q ≡ Ok tt → (w : ℤ) → w ≡ sign (sense_of q)
     → ◌≡◌ {A = Motion}
     (record { level = stored (stored w *ℤ stored x.height); speed = stored_difference w x.speed x.intruder_speed; target = stored_difference w q.target x.intruder_speed; upper_target = stored_difference w q.upper_target x.intruder_speed })
     (sensed_motion x q)
@@ -103,4 +103,4 @@ is_motion x y q e w is =
     (result {t = stored_difference w q.upper_target x.intruder_speed} (search machine) tt ∙ sensed (q.upper_target -ℤ x.intruder_speed))
 
 pub returns : goal.returns
-returns c = is_motion c.args.encounter c.args.settings c.args.question c.requires _ (c.sign_of-w.ensures ∙ ap sign c.sense_of.ensures)
+returns c = is_motion c.args.asked.encounter c.args.asked.settings c.args.asked.question c.args.asked.accepted _ (c.sign_of-w.ensures ∙ ap sign c.sense_of.ensures)

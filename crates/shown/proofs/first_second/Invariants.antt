@@ -5,7 +5,7 @@ use Rattle.shown.proofs.Steps.{Bracket}
 use Rattle.shown.proofs.first_second.Given as goal
 
 abbrev pub invariant-loop-hi : goal.invariant-loop-hi
-invariant-loop-hi l = Bracket l.side l.s l.lo l.hi
+invariant-loop-hi l = Bracket l.asked.side l.asked.question.sensed l.lo l.hi
 
 abbrev pub decreases-loop-hi : goal.decreases-loop-hi
 decreases-loop-hi l = l.hi - l.lo

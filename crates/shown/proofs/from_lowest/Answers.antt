@@ -4,20 +4,20 @@ use Rattle.shown.proofs.InstantsInReach.{turning_reach}
 use Rattle.shown.proofs.OpenWindow.{after_lowest, lowest_shown, inside_turning}
 use Rattle.shown.proofs.from_lowest.Goals as goal
 
-pub shown_at-requires-clause-in_reach : goal.shown_at-requires-clause-in_reach
-shown_at-requires-clause-in_reach c =
-    let s = c.args.s in
+pub shown_at-requires : goal.shown_at-requires
+shown_at-requires c =
+    let s = c.args.question.sensed in
     let t = c.in-Inside.t in
-    turning_reach s c.requires.sizes t (inside_turning s t (sym c.lowest_point.ensures ∙ c.in-Inside.is))
+    turning_reach s c.args.question.sizes t (inside_turning s t (sym c.lowest_point.ensures ∙ c.in-Inside.is))
 
 pub returns-in-Passed : goal.returns-in-Passed
 returns-in-Passed c =
-    ap (after_lowest c.args.s) (sym (sym c.lowest_point.ensures ∙ c.in-Passed.is)) ∙ lowest_shown c.args.s c.requires.sizes c.requires.opened.0 c.requires.opened.1.0
+    ap (after_lowest c.args.question.sensed) (sym (sym c.lowest_point.ensures ∙ c.in-Passed.is)) ∙ lowest_shown c.args.question.sensed c.args.question.sizes c.requires.opened c.requires.tried.0
 
 pub returns-in-Inside : goal.returns-in-Inside
 returns-in-Inside c =
-    c.shown_at.ensures ∙ ap (after_lowest c.args.s) (sym (sym c.lowest_point.ensures ∙ c.in-Inside.is)) ∙ lowest_shown c.args.s c.requires.sizes c.requires.opened.0 c.requires.opened.1.0
+    c.shown_at.ensures ∙ ap (after_lowest c.args.question.sensed) (sym (sym c.lowest_point.ensures ∙ c.in-Inside.is)) ∙ lowest_shown c.args.question.sensed c.args.question.sizes c.requires.opened c.requires.tried.0
 
 pub returns-in-Beyond : goal.returns-in-Beyond
 returns-in-Beyond c =
-    c.from_end.ensures ∙ ap (after_lowest c.args.s) (sym (sym c.lowest_point.ensures ∙ c.in-Beyond.is)) ∙ lowest_shown c.args.s c.requires.sizes c.requires.opened.0 c.requires.opened.1.0
+    c.from_end.ensures ∙ ap (after_lowest c.args.question.sensed) (sym (sym c.lowest_point.ensures ∙ c.in-Beyond.is)) ∙ lowest_shown c.args.question.sensed c.args.question.sizes c.requires.opened c.requires.tried.0

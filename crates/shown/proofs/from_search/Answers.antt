@@ -6,12 +6,12 @@ use Rattle.shown.proofs.from_search.Goals as goal
 
 pub returns-then-not-approaching : goal.returns-then-not-approaching
 returns-then-not-approaching c =
-    departing c.args.side c.args.s c.requires.s_value (zero_in c.args.s c.requires.opened.0 c.requires.s_value) (sym c.approaching.ensures ∙ c.if-not-approaching.true)
+    departing c.args.asked.side c.args.asked.question.sensed c.requires.endless (zero_in c.args.asked.question.sensed c.requires.opened c.requires.endless) (sym c.approaching.ensures ∙ c.if-not-approaching.true)
 
-pub first_second-n-requires-clause-searchable : goal.first_second-n-requires-clause-searchable
-first_second-n-requires-clause-searchable c =
-    searchable c.args.side c.args.s c.requires.s_value (zero_in c.args.s c.requires.opened.0 c.requires.s_value) (sym c.approaching.ensures ∙ c.if-not-approaching.false) c.requires.opened.1
+pub first_second-requires : goal.first_second-requires
+first_second-requires c =
+    searchable c.args.asked.side c.args.asked.question.sensed c.requires.endless (zero_in c.args.asked.question.sensed c.requires.opened c.requires.endless) (sym c.approaching.ensures ∙ c.if-not-approaching.false) c.requires.tried
 
 pub returns : goal.returns
 returns c =
-    sym c.first_second-n.ensures ∙ found c.args.side c.args.s c.requires.s_value (zero_in c.args.s c.requires.opened.0 c.requires.s_value) (sym c.approaching.ensures ∙ c.if-not-approaching.false)
+    sym c.first_second.ensures ∙ found c.args.asked.side c.args.asked.question.sensed c.requires.endless (zero_in c.args.asked.question.sensed c.requires.opened c.requires.endless) (sym c.approaching.ensures ∙ c.if-not-approaching.false)

@@ -1,9 +1,8 @@
 -- Definitions that only inner contracts use; an instructor need not read them. What the steps of the code know and give: which instants have been tried
 -- without a conflict, where the path is lowest, and the first whole second by its height alone.
-use Rattle.std.specs.Prelude.{◌≡◌, true, false, cond}
+use Rattle.std.specs.Prelude.{◌≡◌, true, false, cond, None, Option, Some}
+use Rattle.std.specs.Bool.{then_some}
 use Rattle.instant.specs.declared.Instant.{Instant}
-use Rattle.instant.specs.declared.Moment.{Moment}
-use Rattle.instant.specs.declared.Moment.TheVariants.{At, Never}
 use Rattle.instant.specs.Order.{no_later}
 use Rattle.path.specs.declared.SensedQuestion.{SensedQuestion}
 use Rattle.path.specs.declared.Side.{Side}
@@ -32,18 +31,22 @@ InstantsTried Lower s = StartTried Lower s × (in_conflict Lower s (d s) 1 ≡ f
 InstantsTried Upper s = StartTried Upper s
 
 -- an instant of the window, shown if the path is not beyond the intruder there
-unfoldable pub shown_at : Side → SensedQuestion → Instant → Moment
+unfoldable pub shown_at : Side → SensedQuestion → Instant → Option Instant
 unfolding not_beyond
-shown_at side s t = cond (not_beyond side s t.n t.m) (At t) Never
+shown_at side s t = then_some (not_beyond side s t.n t.m) t
+
+-- the turning instant of a question, if there is one
+abbrev pub turning_of : SensedQuestion → Option Instant
+turning_of s = turning_instant (q s) (a s) (d s) (u_d s)
 
 -- Where the path's lowest point after the delay lies, by its turning instant: "d + max(0, −u_d)/a if q ≥ 0"
-abbrev pub lowest_by : SensedQuestion → Moment → LowestPoint
-lowest_by s Never = Beyond
-lowest_by s (At t) = cond (no_later t (window_start s)) Passed (cond (in_window s t.n t.m) (Inside t) Beyond)
+abbrev pub lowest_by : SensedQuestion → Option Instant → LowestPoint
+lowest_by s None = Beyond
+lowest_by s (Some t) = cond (no_later t (window_start s)) Passed (cond (in_window s t.n t.m) (Inside t) Beyond)
 
 unfoldable pub lowest_point : SensedQuestion → LowestPoint
 unfolding in_window
-lowest_point s = lowest_by s (turning_instant (q s) (a s) (d s) (u_d s))
+lowest_point s = lowest_by s (turning_of s)
 
 -- a search may begin: the path goes towards the intruder for ever, and is beyond it at 0 and where the search starts
 pub record Searchable (side : Side) (s : SensedQuestion) : Type 0 where
@@ -52,6 +55,6 @@ pub record Searchable (side : Side) (s : SensedQuestion) : Type 0 where
   pub start : not_beyond side s (search_start side s) 1 ≡ false
 
 -- the first whole second at which the path is not beyond the intruder
-unfoldable pub first_reached : Side → SensedQuestion → Moment
+unfoldable pub first_reached : Side → SensedQuestion → Option Instant
 unfolding not_beyond
 first_reached side s = first_second (λ j. not_beyond side s j 1) (seconds_tried side) 0

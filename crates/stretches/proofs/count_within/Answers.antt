@@ -1,20 +1,12 @@
--- `stretches::count_within` meets its contract: an odd count of numbers is no pairs, and of pairs there are half as many.
-use mathlib.Core.Path.{sym, ap, ◌∙◌}
-use mathlib.Core.Bool.{Bool, ◌&&◌}
-use Prim.Native.Nat.{ℕ}
-use lib.Dec.{leb}
+-- `stretches::count_within` meets its contract: the numbers are pairs, and half as many stretches are within the limits.
+use Rattle.std.proofs.Common.{◌≡◌, sym, ap, ◌∙◌, Bool, ◌&&◌, eqb, leb, length, ◌/◌, ◌%◌, arith}
+use Rattle.std.proofs.lemmas.Grind.{common_steps}
 use Rattle.limits.specs.Limits.{min_stretches, max_stretches}
-use Rattle.flight.specs.FlightLimits.{count_within}
-use Rattle.flight.specs.HandedIn.{flight_of}
-use Rattle.stretches.proofs.Pairs.{count, are_pairs, no_pairs}
+use Rattle.stretches.proofs.Pairs.{counted}
 use Rattle.stretches.proofs.count_within.Goals as goal
-
-pub returns-then-flight-ne0 : goal.returns-then-flight-ne0
-returns-then-flight-ne0 c =
-    let l = c.args.flight.now in
-    sym (ap (λ (b : Bool). b && count_within (flight_of l)) (no_pairs l c.if-flight-ne0.true))
 
 pub returns : goal.returns
 returns c =
     let l = c.args.flight.now in
-    sym (ap (λ (b : Bool). b && count_within (flight_of l)) (are_pairs l c.if-flight-ne0.false) ∙ ap (λ (n : ℕ). leb min_stretches n && leb n max_stretches) (count l))
+    let few : c.contains.result ≡ (leb min_stretches (length l / 2) && leb (length l / 2) max_stretches) = grind (arith, common_steps) in
+    ap (λ (b : Bool). eqb (length l % 2) 0 && b) few ∙ sym (counted l)

@@ -1,9 +1,6 @@
--- Whole cases alone are read, and it ends: the number of judged cases only grows.
-use Rattle.std.proofs.Common.{◌-◌, ◌/◌, ◌≤◌, length}
+-- Each case is counted once.
+use Rattle.std.proofs.Common.{◌≡◌}
 use Rattle.vectors.proofs.report_on.Given as goal
 
-abbrev pub invariant-loop-i : goal.invariant-loop-i
-invariant-loop-i l = l.i ≤ length l.bytes / 200
-
-abbrev pub decreases-loop-i : goal.decreases-loop-i
-decreases-loop-i l = l.cases - l.i
+abbrev pub invariant-loop-case : goal.invariant-loop-case
+invariant-loop-case l = l.report.cases ≡ l.case-index

@@ -1,0 +1,153 @@
+// What the programs share that hold the judge against stored answers: a file's first line and the whole cases behind it, and a report on each file that an argument names.
+#![tactic(auto)]
+
+ghost use Rattle.std.specs.Prelude.{◌≡◌, ℕ, ◌+◌, ◌*◌, ◌%◌, ◌/◌, ◌<◌, ◌≤◌, ◌++◌, [], ◌∷◌, ◌==◌, length, take, position, OnOk, IfSome, List};
+ghost use Rattle.std.specs.Simd.{first_chunks};
+ghost use Rattle.std.specs.Fn.{FnReturnsAt};
+ghost use Rattle.std.specs.List.{FoldsTo};
+ghost use Rattle.std.specs.Io.BufRead.{take_through, drop_through};
+ghost use Rattle.std.specs.Io.KnownBytes.{Appends};
+ghost use Rattle.cases.specs.Numbers.{encounter_in, settings_in, question_in};
+ghost use Rattle.cases.specs.Reports.{report_text, unread_text, WritesReport, WritesArgument};
+
+use question::{Encounter, Question, Settings};
+use reading::{NAME_ROOM, argument, argument_count, open_named, read_full};
+use std::fmt::Display;
+use std::io;
+use std::io::{Read, Write};
+use std::rt::{Env, Files};
+
+const LINE_END: u8 = 10;
+
+// A case's first numbers, in two's complement.
+pub fn encounter_in<const N: usize>(case: &[u64; N]) -> Encounter
+    requires { 5 ≤ N }
+    ensures { result ≡ encounter_in case.now }
+{
+    Encounter {
+        distance: case[0].cast_signed(),
+        height: case[1].cast_signed(),
+        closing_speed: case[2].cast_signed(),
+        speed: case[3].cast_signed(),
+        intruder_speed: case[4].cast_signed(),
+    }
+}
+
+// The settings' follow.
+pub fn settings_in<const N: usize>(case: &[u64; N]) -> Settings
+    requires { 8 ≤ N }
+    ensures { result ≡ settings_in case.now }
+{
+    Settings {
+        radius: case[5].cast_signed(),
+        half_height: case[6].cast_signed(),
+        delay_acceleration: case[7].cast_signed(),
+    }
+}
+
+// And the question's, where the case has one.
+pub fn question_in<const N: usize>(case: &[u64; N]) -> Question
+    requires { 16 ≤ N }
+    ensures { result ≡ question_in case.now }
+{
+    Question {
+        sides: case[8].cast_signed(),
+        sense: case[9].cast_signed(),
+        target: case[10].cast_signed(),
+        upper_target: case[11].cast_signed(),
+        strength: case[12].cast_signed(),
+        upper_strength: case[13].cast_signed(),
+        delay: case[14].cast_signed(),
+        limit: case[15].cast_signed(),
+    }
+}
+
+// The whole cases of N numbers of eight bytes, and how many bytes are left over.
+pub fn whole_cases<const N: usize>(bytes: &[u8]) -> (&[[[u8; 8]; N]], usize)
+    requires { 0 < N }
+    ensures cases { result.0.now ≡ first_chunks N (length bytes.now / 8 / N) (first_chunks 8 (length bytes.now / 8) bytes.now) }
+    ensures number { length result.0.now ≡ length bytes.now / 8 / N }
+    ensures left_over { result.1 ≡ length bytes.now % (N * 8) }
+{
+    let (numbers, odd) = bytes.as_chunks::<8>();
+    let (cases, rest) = numbers.as_chunks::<N>();
+    (cases, rest.len() * 8 + odd.len())
+}
+
+fn line_end(bytes: &[u8]) -> Option<usize>
+    ensures { result ≡ position (λ byte. byte == LINE_END) bytes.now }
+{
+    bytes.iter().position(|byte| *byte == LINE_END)
+}
+
+// The first line, with its end, and what follows.
+fn split_first_line(bytes: &[u8]) -> (&[u8], &[u8])
+    ensures { (result.0.now ≡ take_through LINE_END bytes.now) × (result.1.now ≡ drop_through LINE_END bytes.now) }
+{
+    match line_end(bytes) {
+        Some(at) => bytes.split_at(at + 1),
+        None => (bytes, &[]),
+    }
+}
+
+fn write_unread<O: Write>(output: &mut O, name: &[u8]) -> io::Result<()>
+    ensures { OnOk result (Appends (O.contents output.old) (O.contents output.new) (unread_text name.now)) }
+{
+    output.write_all(name)?;
+    writeln!(output, ": cannot be read")
+}
+
+// Writes the name and the first line of a file, as much of it as the room has, and the report on the rest.
+pub fn report_file<I: Read, O: Write, T: Display + Drop, F: Fn(&[u8]) -> T>(
+    input: &mut I,
+    output: &mut O,
+    name: &[u8],
+    room: &mut [u8],
+    report: &F,
+) -> io::Result<()>
+    requires { F.IsAlwaysCallable report.now }
+    ensures { OnOk result ((file : List ℕ) × IfSome (I.remaining input.old) (λ bytes. file ≡ take (length room.old) bytes)
+        × WritesReport T.output (FnReturnsAt F.Fn report.now) (O.contents output.old) name.now file (O.contents output.new)) }
+{
+    output.write_all(name)?;
+    output.write_all(b": ")?;
+    let length = read_full(input, room)?;
+    let (line, cases) = split_first_line(&room[..length]);
+    output.write_all(line)?;
+    writeln!(output, "{}", report(cases))
+}
+
+fn report_argument<R: Files + Env, O: Write, T: Display + Drop, F: Fn(&[u8]) -> T>(
+    rt: &R,
+    output: &mut O,
+    k: usize,
+    room: &mut [u8],
+    report: &F,
+) -> io::Result<()>
+    requires { F.IsAlwaysCallable report.now }
+    ensures { OnOk result ((name : List ℕ) × WritesArgument T.output (FnReturnsAt F.Fn report.now) (O.contents output.old) name (O.contents output.new)) }
+{
+    let mut name = [0u8; NAME_ROOM];
+    let length = argument(rt, k, &mut name);
+    let name = &name[..length];
+    match open_named(rt, name) {
+        Ok(mut file) => report_file(&mut file, output, name, room, report),
+        Err(_) => write_unread(output, name),
+    }
+}
+
+// Reports on each file that an argument names.
+pub fn report_arguments<R: Files + Env, O: Write, T: Display + Drop, F: Fn(&[u8]) -> T>(
+    rt: &R,
+    output: &mut O,
+    room: &mut [u8],
+    report: &F,
+) -> io::Result<()>
+    requires { F.IsAlwaysCallable report.now }
+    ensures { OnOk result ((names : List (List ℕ)) × FoldsTo (WritesArgument T.output (FnReturnsAt F.Fn report.now)) (O.contents output.old) names (O.contents output.new)) }
+{
+    for k in 1..argument_count(rt) {
+        report_argument(rt, output, k, room, report)?;
+    }
+    Ok(())
+}

@@ -1,0 +1,30 @@
+-- `conflict::not_beyond` meets its contract: during the delay the comparison is the definition's with the strength divided out, and after it the rule's is
+-- the definition's with the height at the delay's end taken from both sides.
+use mathlib.Core.Path.{ap, ◌∙◌}
+use Prim.Native.Nat.{◌*◌, ◌-◌}
+use native.Mathlib.Omega.{arith}
+use Rattle.path.proofs.SideSizes.{sized_of}
+use Rattle.conflict.specs.declared.AdviceRule.{AdviceRule}
+use Rattle.conflict.specs.inner.Divided.{rule_not_beyond}
+use Rattle.conflict.proofs.Divided.{delay_divided, rule_divided}
+use Rattle.conflict.proofs.Fields.{rule_sizes, missing_most}
+use Rattle.conflict.proofs.not_beyond.Goals as goal
+
+pub returns-then-t-end : goal.returns-then-t-end
+returns-then-t-end c =
+    c.delay_not_beyond.ensures ∙ delay_divided c.args.asked.side c.args.asked.question.sensed c.args.t.n c.args.t.m (sized_of c.args.asked) c.if-t-end.true
+
+pub rule_not_beyond-requires-clause-rule_sizes : goal.rule_not_beyond-requires-clause-rule_sizes
+rule_not_beyond-requires-clause-rule_sizes c = rw c.advice_rule.ensures (rule_sizes c.args.asked.side c.args.asked.question.sensed (sized_of c.args.asked))
+
+pub rule_not_beyond-requires-clause-missing_within : goal.rule_not_beyond-requires-clause-missing_within
+rule_not_beyond-requires-clause-missing_within c = rw c.advice_rule.ensures (missing_most c.args.asked.side c.args.asked.question.sensed (sized_of c.args.asked))
+
+pub returns : goal.returns
+returns c =
+    let side = c.args.asked.side in
+    let s = c.args.asked.question.sensed in
+    let t = c.args.t in
+    c.rule_not_beyond.ensures
+    ∙ ap (λ (rule : AdviceRule). rule_not_beyond side rule (t.n - s.delay * t.m) t.m) c.advice_rule.ensures
+    ∙ rule_divided side s t.n t.m (omega (arith, c.if-t-end.false))

@@ -1,0 +1,46 @@
+// The replies to the records of a sheet that has no fault, in order.
+
+ghost use Rattle.std.specs.Prelude.{◌≡◌, Ok};
+ghost use Rattle.std.specs.Iterator.{YieldsFirst, item_count};
+ghost use Rattle.record.specs.SheetCheck.{sheet_check};
+ghost use Rattle.sheet.specs.inner.Replies.{sheet_replies, replies_left};
+
+use answering::State;
+use question::Refusal;
+use record::Records;
+use verdict::Verdict;
+
+// The records to come, and the state that those before them left.
+#[derive(Clone, Copy)]
+pub(crate) struct Replies<'a> {
+    records: Records<'a>,
+    state: State,
+}
+
+impl<'a> Replies<'a> {
+    pub(crate) fn of(sheet: &'a [u8]) -> Replies<'a>
+        requires { sheet_check sheet.now ≡ Ok tt }
+        ensures { replies_left result ≡ sheet_replies sheet.now }
+    {
+        Replies {
+            records: Records::of(sheet),
+            state: State::new(),
+        }
+    }
+}
+
+impl<'a> Iterator for Replies<'a> {
+    type Item = Option<Result<Verdict, Refusal>>;
+
+    ghost next_gives = { YieldsFirst replies_left };
+
+    ghost remaining = { item_count replies_left };
+
+    #[tactic(auto, unfolding(crate::specs::inner::Replies::replies_from))]
+    fn next(&mut self) -> Option<Option<Result<Verdict, Refusal>>> {
+        let record = self.records.next()?;
+        let (state, reply) = self.state.answer(record);
+        self.state = state;
+        Some(reply)
+    }
+}

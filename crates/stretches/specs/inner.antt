@@ -1,2 +1,0 @@
--- Definitions that only inner contracts use; an instructor need not read them.
-pub mod NoStretch
