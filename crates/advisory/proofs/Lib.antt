@@ -1,5 +1,4 @@
 pub mod EveryBelow
-pub mod Rows
 pub mod CodeRanges
 pub mod SameInstruction
 pub mod TablesAgree
