@@ -30,7 +30,7 @@ use Rattle.sensed.specs.Sensed.{sensed_question}
 use Rattle.coded.specs.Coded.{sense_number, instructed, maintainable, asked, coded_question}
 use Rattle.verdict.specs.Verdicts.{verdict}
 use Rattle.judge.specs.Answers.{checked_answer, answer}
-use Rattle.integers.proofs.Branches.{picks_yes, picks_no}
+use Rattle.std.proofs.lemmas.Bool.{cond-true, cond-false}
 use Rattle.question.proofs.WithinLimits.{Between, between}
 use Rattle.answering.specs.declared.State.{State}
 use Rattle.answering.specs.States.{StoredEncounterWithin, StoredWithin}
@@ -56,7 +56,7 @@ module _ (x : Encounter) (y : Settings) (met : T (encounter_within x)) (puck : T
   unfolding answer refusal
   plain_order z =
       refused_is (refusal x y z) (verdict z (sensed_question x y z))
-      ∙ picks_yes (encounter_within x) _ _ (is_true (encounter_within x) met) ∙ picks_yes (puck_within y) _ _ (is_true (puck_within y) puck) ∙ picks_yes (delay_acceleration_within y) _ _ (is_true (delay_acceleration_within y) acceleration)
+      ∙ cond-true (encounter_within x) _ _ (is_true (encounter_within x) met) ∙ cond-true (puck_within y) _ _ (is_true (puck_within y) puck) ∙ cond-true (delay_acceleration_within y) _ _ (is_true (delay_acceleration_within y) acceleration)
 
   -- ---- a judged code passes 4, 5 and 14 to 16, and its delay is within limits: 6 only through its limit
   own_speed : Between (neg_ℤ (pos max_speed)) (pos max_speed) x.speed
@@ -98,7 +98,7 @@ module _ (x : Encounter) (y : Settings) (met : T (encounter_within x)) (puck : T
     judged_order : refusal_in (answer x y (instructed i x.speed limit)) ≡ cond (limit_allowed (instructed i x.speed limit)) (Ok tt) (Err Refusal.TimesOutside)
     judged_order =
         let z = instructed i x.speed limit in
-        plain_order z ∙ picks_yes (sides_known z) _ _ sides_pass ∙ picks_yes (targets_within z) _ _ targets_pass ∙ picks_yes (strengths_within z) _ _ strengths_pass ∙ ap (λ (b : Bool). cond b (Ok tt) (Err Refusal.TimesOutside)) times_by_limit
+        plain_order z ∙ cond-true (sides_known z) _ _ sides_pass ∙ cond-true (targets_within z) _ _ targets_pass ∙ cond-true (strengths_within z) _ _ strengths_pass ∙ ap (λ (b : Bool). cond b (Ok tt) (Err Refusal.TimesOutside)) times_by_limit
 
     -- 17 comes before it
     maintained_order : (may : Bool)
@@ -110,11 +110,11 @@ module _ (x : Encounter) (y : Settings) (met : T (encounter_within x)) (puck : T
       → refusal_in (asked_answer x y (asked code a x.speed limit)) ≡ first_refusal (coded_checks (Some x) code limit)
   asked_order code limit (Ok i) limits stands =
       maintained_order i (limits i refl) limit (maintainable code x.speed)
-      ∙ sym (picks_yes (code_from 1 18 code) _ _ (both_true (le-leb 1 code (omega arith)) (le-leb code 18 (omega arith))) ∙ picks_yes (code_from 1 16 code) _ _ (both_true (le-leb 1 code (omega arith)) (le-leb code 16 (omega arith))))
+      ∙ sym (cond-true (code_from 1 18 code) _ _ (both_true (le-leb 1 code (omega arith)) (le-leb code 18 (omega arith))) ∙ cond-true (code_from 1 16 code) _ _ (both_true (le-leb 1 code (omega arith)) (le-leb code 16 (omega arith))))
   asked_order code limit (Err CodeError.NotJudged) limits stands =
-      sym (picks_yes (code_from 1 18 code) _ _ (both_true (le-leb 1 code (omega arith)) (le-leb code 18 (omega arith))) ∙ picks_no (code_from 1 16 code) _ _ (fails_right (leb 1 code) (lt-leb code 16 (omega arith))))
+      sym (cond-true (code_from 1 18 code) _ _ (both_true (le-leb 1 code (omega arith)) (le-leb code 18 (omega arith))) ∙ cond-false (code_from 1 16 code) _ _ (fails_right (leb 1 code) (lt-leb code 16 (omega arith))))
   asked_order code limit (Err CodeError.Unknown) limits stands =
-      sym (picks_no (code_from 1 18 code) _ _ (⊎_elim (λ low. fails_left (leb code 18) (lt-leb 1 code low)) (λ high. fails_right (leb 1 code) (lt-leb code 18 high)) stands))
+      sym (cond-false (code_from 1 18 code) _ _ (⊎_elim (λ low. fails_left (leb code 18) (lt-leb 1 code low)) (λ high. fails_right (leb 1 code) (lt-leb code 18 high)) stands))
 
 -- ---- the theorems
 free_from : (m : Option Encounter) (y : Settings) → StoredEncounterWithin m → T (puck_within y) → T (delay_acceleration_within y) → (z : Question)

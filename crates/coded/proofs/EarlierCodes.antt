@@ -12,7 +12,7 @@ use lib.IntN.{ℤ, pos}
 use lib.Signed.{le_z, ◌≤ℤ◌, ◌<ℤ◌, le_z_yes, clash_ℤ}
 use Rattle.integers.proofs.Certificates.{split<}
 use Rattle.integers.proofs.Laws.{same_test}
-use Rattle.integers.proofs.Branches.{picks_yes, picks_no}
+use Rattle.std.proofs.lemmas.Bool.{cond-true, cond-false}
 use Rattle.advisory.specs.declared.Instruction.{Instruction}
 use Rattle.advisory.specs.Catalogue.{article_entries, not_judged, catalogue_of}
 use Rattle.advisory.specs.ReactionTable.{reaction_table}
@@ -101,7 +101,7 @@ module _ (code : ℕ) (v : ℤ) where
     asked_17 (Err CodeError.Unknown) e = absurd (let z : ◌≡◌ {A = ℕ} 8 17 = cc in omega arith)
 
     as_before : (a : Result Instruction CodeError) → maintainable code v ≡ true → asked code a v limit ≡ earlier_asked a v limit
-    as_before (Ok i) e = picks_yes _ _ _ e
+    as_before (Ok i) e = cond-true _ _ _ e
     as_before (Err CodeError.NotJudged) e = refl
     as_before (Err CodeError.Unknown) e = refl
 
@@ -109,7 +109,7 @@ module _ (code : ℕ) (v : ℤ) where
     unfolding coded_question
     now_17 n =
         let l = listed n in
-        ap (λ (a : Result Instruction CodeError). asked code a v limit) l.1 ∙ picks_no _ _ _ (never_issued.1 n)
+        ap (λ (a : Result Instruction CodeError). asked code a v limit) l.1 ∙ cond-false _ _ _ (never_issued.1 n)
 
     pub only_17 : OnlySeventeen code v limit
     unfolding coded_question earlier_question

@@ -10,7 +10,7 @@ use lib.Dec.{ltb}
 use lib.IntN.{ℤ, pos, neg_ℤ, ◌+ℤ◌, ◌*ℤ◌, nat_abs}
 use Rattle.integers.proofs.Quotation.{quote}
 use Rattle.integers.proofs.Certificates.{ring}
-use Rattle.integers.proofs.Branches.{picks_yes, picks_no}
+use Rattle.std.proofs.lemmas.Bool.{cond-true, cond-false}
 use Rattle.path.specs.declared.SensedQuestion.{SensedQuestion}
 use Rattle.path.specs.Letters.{c, p, u, q, a, d, e}
 use Rattle.path.specs.Window.{distance_at}
@@ -114,10 +114,10 @@ module _ (s : SensedQuestion) (l : List Stretch) (n : ℕ) where
       let proper = (near_part_lem (c s) (p s) (distance_at s n 1)).proper in
       let up = reaches_clamped L (band_from s l n) v g large part proper in
       let down = reaches_clamped L (neg_ℤ (band_to s l n)) (neg_ℤ v) (neg_ℤ g) (omega (arith, negated_size v, negated_size g)) part proper in
-      picks_yes (ltb n (duration l)) (crosses (band_from s l n) (band_to s l n) v g part) (inside_at s l n) (decided_yes (nat_decides (suc n) (duration l)) h)
+      cond-true (ltb n (duration l)) (crosses (band_from s l n) (band_to s l n) v g part) (inside_at s l n) (decided_yes (nat_decides (suc n) (duration l)) h)
       ∙ ap (λ (b : Bool). b && reaches (neg_ℤ (band_to s l n)) (neg_ℤ v) (neg_ℤ g) part) up
       ∙ ap (λ (b : Bool). reaches (clamped L (band_from s l n)) v g part && b) down
 
   pub last_test : duration l ≤ n → inside_second s l n ≡ inside_at s l n
   unfolding inside_second
-  last_test h = picks_no (ltb n (duration l)) (crosses (band_from s l n) (band_to s l n) (speed_at (u s) l n 1) (acceleration_at l n 1) part) (inside_at s l n) (decides_not (nat_decides (suc n) (duration l)) (λ (i : suc n ≤ duration l). absurd (omega arith)))
+  last_test h = cond-false (ltb n (duration l)) (crosses (band_from s l n) (band_to s l n) (speed_at (u s) l n 1) (acceleration_at l n 1) part) (inside_at s l n) (decides_not (nat_decides (suc n) (duration l)) (λ (i : suc n ≤ duration l). absurd (omega arith)))

@@ -45,7 +45,7 @@ use Rattle.judge.specs.Answers.{answer, AnswerRecord, answer_record}
 use Rattle.judge.specs.Demand3.{RightOneSided}
 use Rattle.question.proofs.WithinLimits.{Between, between, within_in, within_limits}
 use Rattle.sensed.proofs.AcceptedSizes.{accepted_sizes}
-use Rattle.integers.proofs.Branches.{picks_yes}
+use Rattle.std.proofs.lemmas.Bool.{cond-true}
 use Rattle.judge.proofs.Demand3.{judged, one_sided_lem}
 use Rattle.region.specs.Formula.{Formula, Says}
 use Rattle.region.specs.Figure5.{D_explᵈ}
@@ -144,13 +144,13 @@ module _ (x : Encounter) (y : Settings) (encounter : encounter_within x ≡ true
     coded_accepted : refusal x y question ≡ Ok tt
     unfolding refusal
     coded_accepted =
-        picks_yes (encounter_within x) _ _ encounter
-        ∙ picks_yes (puck_within y) _ _ puck
-        ∙ picks_yes (delay_acceleration_within y) _ _ acceleration
-        ∙ picks_yes (sides_known question) _ _ (sense_known i.sense)
-        ∙ picks_yes (targets_within question) _ _ (is_true (targets_within question) targets)
-        ∙ picks_yes (strengths_within question) _ _ (is_true (strengths_within question) strengths)
-        ∙ picks_yes (times_within question) _ _ (is_true (times_within question) times)
+        cond-true (encounter_within x) _ _ encounter
+        ∙ cond-true (puck_within y) _ _ puck
+        ∙ cond-true (delay_acceleration_within y) _ _ acceleration
+        ∙ cond-true (sides_known question) _ _ (sense_known i.sense)
+        ∙ cond-true (targets_within question) _ _ (is_true (targets_within question) targets)
+        ∙ cond-true (strengths_within question) _ _ (is_true (strengths_within question) strengths)
+        ∙ cond-true (times_within question) _ _ (is_true (times_within question) times)
 
     -- the question's region in the numbers of the encounter, the settings and the instruction
     same_region : D_expl (sensed_question x y question) ≡ advisory_region x y i
@@ -177,7 +177,7 @@ module _ (x : Encounter) (y : Settings) (encounter : encounter_within x ≡ true
         line = i;
         in_table_1 = sym (advised_is_table_1 code byte) ∙ ap instruction_in e;
         question = instructed i x.speed no_limit;
-        asked = ap (λ (a : Result Instruction CodeError). asked code a x.speed no_limit) e ∙ picks_yes _ _ _ may;
+        asked = ap (λ (a : Result Instruction CodeError). asked code a x.speed no_limit) e ∙ cond-true _ _ _ may;
         accepted = coded_accepted i limits;
         clear = instruction_clear i limits;
       }

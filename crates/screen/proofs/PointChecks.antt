@@ -7,7 +7,7 @@ use Prim.Native.Nat.{ℕ, ◌≤◌, ◌<◌}
 use native.Mathlib.Omega.{arith}
 use lib.Dec.{leb}
 use borrow.Author.Tests.{leb-true, le-leb, lt-leb}
-use Rattle.integers.proofs.Branches.{picks_yes, picks_no}
+use Rattle.std.proofs.lemmas.Bool.{cond-true, cond-false}
 use Rattle.question.specs.declared.Encounter.{Encounter}
 use Rattle.question.specs.declared.Settings.{Settings}
 use Rattle.question.specs.declared.Question.{Question}
@@ -29,12 +29,12 @@ module _ (x : Encounter) (y : Settings) (z : Question) (t : ℕ) where
 
   pub in_time_lem : refusal x y z ≡ Ok tt → t ≤ last_second → point_refusal x y z t ≡ Ok tt
   unfolding point_refusal refusal
-  in_time_lem e h = accepted_first (plain_checks x y z) (check Refusal.TimesOutside (leb t last_second) ∷ []) e ∙ picks_yes (leb t last_second) (Ok tt) (Err Refusal.TimesOutside) (le-leb t last_second h)
+  in_time_lem e h = accepted_first (plain_checks x y z) (check Refusal.TimesOutside (leb t last_second) ∷ []) e ∙ cond-true (leb t last_second) (Ok tt) (Err Refusal.TimesOutside) (le-leb t last_second h)
 
   -- an accepted question's second above 600 gets 6
   pub late_second : refusal x y z ≡ Ok tt → last_second < t → point_refusal x y z t ≡ Err Refusal.TimesOutside
   unfolding point_refusal refusal
-  late_second e h = accepted_first (plain_checks x y z) (check Refusal.TimesOutside (leb t last_second) ∷ []) e ∙ picks_no (leb t last_second) (Ok tt) (Err Refusal.TimesOutside) (lt-leb t last_second h)
+  late_second e h = accepted_first (plain_checks x y z) (check Refusal.TimesOutside (leb t last_second) ∷ []) e ∙ cond-false (leb t last_second) (Ok tt) (Err Refusal.TimesOutside) (lt-leb t last_second h)
 
   -- a refused question keeps its number, whatever the second
   pub refused_point : (n : Refusal) → refusal x y z ≡ Err n → point_refusal x y z t ≡ Err n
