@@ -42,10 +42,6 @@ read_call {x} {t} f h = equal_to (to_z-of_z f ∙ h) (unbounded t)
 lower_in_upper : {n m : ℕ} → InReach Lower n m → InReach Upper n m
 lower_in_upper h = record { n_hi = omega (arith, h.n_hi); m_lo = h.m_lo; m_hi = h.m_hi }
 
-pub upper_reach : (side : Side) {n m : ℕ} → InReach side n m → InReach Upper n m
-upper_reach Lower h = lower_in_upper h
-upper_reach Upper h = h
-
 pub side_reach : (side : Side) {n m : ℕ} → InReach Lower n m → InReach side n m
 side_reach Lower h = h
 side_reach Upper h = lower_in_upper h
