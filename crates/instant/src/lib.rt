@@ -15,7 +15,7 @@ pub struct Instant {
 }
 
 // A time as it is shown: whole seconds, and remainder/divisor of a second in lowest terms.
-#[derive(Clone, Copy)]
+#[derive(Clone, Copy, Default)]
 pub struct Time {
     pub seconds: u64,
     pub remainder: u64,
@@ -72,17 +72,13 @@ fn shared_twos(a: u64, b: u64) -> u32
     a.trailing_zeros().min(b.trailing_zeros())
 }
 
-// The time n/m in lowest terms; three zeros, which are no time, where m is 0.
+// The time n/m in lowest terms. Where m is 0 it is three zeros, which are no time: no caller has such an m, and each would take an Option apart in vain.
 // Shared factors of two are shifted out; Euclid's algorithm finds what else is shared.
 pub fn lowest_terms(n: u64, m: u64) -> Time
     ensures { result ≡ lowest n m }
 {
     if m == 0 {
-        return Time {
-            seconds: 0,
-            remainder: 0,
-            divisor: 0,
-        };
+        return Time::default();
     }
     let seconds = n / m;
     let left = n % m;
