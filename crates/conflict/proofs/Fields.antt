@@ -15,11 +15,11 @@ use mir.Facts.{to_z-of_z}
 use Rattle.limits.specs.Limits.{max_height, max_closing_speed, max_half_height, max_strength, max_delay_acceleration, max_delay}
 use Rattle.std.specs.Int.{int_max}
 use Rattle.std.proofs.lemmas.Bool.Decides.{nat_tests}
-use Rattle.integers.specs.Extremes.{max0, maxℤ}
+use Rattle.integers.specs.Extremes.{maxℤ}
 use Rattle.integers.proofs.Difference.{cond_by}
 use Rattle.integers.proofs.Quotation.{quote}
 use Rattle.integers.proofs.Certificates.{ring, by≤, gap≤}
-use Rattle.integers.proofs.Laws.{maxℤ_above, nat_abs_in}
+use Rattle.integers.proofs.Laws.{max0_size, maxℤ_above, nat_abs_in}
 use Rattle.integers.proofs.Machine.{Reading, Plain, bounded, bounded_natural, bounded_word, bounded_absolute, unbounded, equal_to, plain_terms}
 use Rattle.path.specs.declared.SensedQuestion.{SensedQuestion}
 use Rattle.path.specs.declared.Side.{Side}
@@ -202,10 +202,6 @@ rule_sizes Upper s z = record {
 }
 
 -- ---- the missing speed
-pub max0_size : (z : ℤ) → max0 z ≤ nat_abs z
-max0_size (pos n) = omega arith
-max0_size (negsuc n) = omega arith
-
 pub missing_size : (rule : AdviceRule) → RuleSizes rule → missing rule ≤ most_missing Lower
 missing_size rule z = omega (arith, max0_size (rule.target -ℤ rule.speed), size (rule.target -ℤ rule.speed) (search numbers depth 20) tt)
 
