@@ -4,11 +4,10 @@ use mathlib.Core.Bool.{Bool, true, false, cond}
 use Prim.Native.Nat.{◌≤◌}
 use native.Mathlib.Nat.{mul-le-mul}
 use native.Mathlib.Omega.{arith}
-use lib.IntN.{ℤ, pos, negsuc, neg_ℤ, ◌-ℤ◌, nat_abs}
+use lib.IntN.{ℤ, pos, neg_ℤ, ◌-ℤ◌, nat_abs}
 use mir.Syntax.{w64}
 use mir.Val.{to_z}
 use Rattle.limits.specs.Limits.{max_strength, max_delay_acceleration, max_delay}
-use Rattle.integers.specs.Extremes.{max0}
 use Rattle.integers.proofs.Laws.{max0_size}
 use Rattle.integers.proofs.Machine.{Reading, bounded_natural, bounded_word, bounded_absolute}
 use Rattle.instant.specs.declared.Instant.{Instant}
