@@ -1,18 +1,16 @@
 -- A point is accepted exactly if its question is and its second is at most 600, and else the question's refusal comes first. Assumes nothing.
-use Rattle.std.specs.Prelude.{Result, ⊤, Err, Ok}
-use mathlib.Core.Path.{◌≡◌, refl, ◌∙◌}
-use mathlib.Core.Bool.{Bool, true, false, cond}
+use Rattle.std.specs.Prelude.{Err, Ok}
+use mathlib.Core.Path.{◌≡◌, ◌∙◌}
 use mathlib.Core.List.{[], ◌∷◌}
 use Prim.Native.Nat.{ℕ, ◌≤◌, ◌<◌}
-use native.Mathlib.Omega.{arith}
 use lib.Dec.{leb}
-use borrow.Author.Tests.{leb-true, le-leb, lt-leb}
+use borrow.Author.Tests.{le-leb, lt-leb}
 use Rattle.integers.proofs.Branches.{picks_yes, picks_no}
 use Rattle.question.specs.declared.Encounter.{Encounter}
 use Rattle.question.specs.declared.Settings.{Settings}
 use Rattle.question.specs.declared.Question.{Question}
 use Rattle.question.specs.Refusals.{check, plain_checks, refusal}
-use Rattle.refusals.proofs.TestedInOrder.{accepted_first, refused_first, both_accept}
+use Rattle.refusals.proofs.TestedInOrder.{accepted_first, refused_first}
 use Rattle.pieces.specs.Pieces.{last_second}
 use Rattle.screen.specs.Points.{point_refusal}
 use Rattle.question.specs.declared.refusal.Refusal.{Refusal}
