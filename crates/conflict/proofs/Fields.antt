@@ -1,10 +1,12 @@
 -- The bounds of a question's and a rule's numbers, as rules for `search`. Assumes nothing.
-use mathlib.Core.Path.{◌≡◌, refl, sym, ap, ap₂, ◌∙◌}
+use mathlib.Core.Path.{◌≡◌, refl, ap, ap₂, ◌∙◌}
+use mathlib.Core.Bool.{◌&&◌}
 use mathlib.Core.List.{[], ◌∷◌}
 use Prim.Native.Nat.{ℕ, ◌+◌, ◌*◌, ◌<◌, ◌≤◌}
 use native.Mathlib.Nat.{mul-le-mul}
 use native.Mathlib.Omega.{arith}
 use lib.Dec.{T, lit≤}
+use lib.Ieee.Fits.{and_l, and_r}
 use lib.IntN.{ℤ, pos, negsuc, ◌+ℤ◌, ◌-ℤ◌, ◌*ℤ◌, nat_abs}
 use lib.Signed.{le_z}
 use mir.Syntax.{w64}
@@ -13,12 +15,12 @@ use mir.Facts.{to_z-of_z}
 use Rattle.limits.specs.Limits.{max_height, max_closing_speed, max_half_height, max_strength, max_delay_acceleration, max_delay}
 use Rattle.std.specs.Int.{int_max}
 use Rattle.std.proofs.lemmas.Bool.Decides.{nat_tests}
-use Rattle.integers.specs.Extremes.{max0, maxℤ}
+use Rattle.integers.specs.Extremes.{maxℤ}
 use Rattle.integers.proofs.Difference.{cond_by}
 use Rattle.integers.proofs.Quotation.{quote}
 use Rattle.integers.proofs.Certificates.{ring, by≤, gap≤}
-use Rattle.integers.proofs.Laws.{maxℤ_above, nat_abs_in}
-use Rattle.integers.proofs.Machine.{Reading, bounded, bounded_natural, bounded_word, bounded_absolute, unbounded, equal_to, plain_terms}
+use Rattle.integers.proofs.Laws.{max0_size, maxℤ_above, nat_abs_in}
+use Rattle.integers.proofs.Machine.{Reading, Plain, bounded, bounded_natural, bounded_word, bounded_absolute, unbounded, equal_to, plain_terms}
 use Rattle.path.specs.declared.SensedQuestion.{SensedQuestion}
 use Rattle.path.specs.declared.Side.{Side}
 use Rattle.path.specs.declared.Side.TheVariants.{Lower, Upper}
@@ -39,10 +41,6 @@ read_call {x} {t} f h = equal_to (to_z-of_z f ∙ h) (unbounded t)
 -- ---- an instant of the lower side is one of the upper
 lower_in_upper : {n m : ℕ} → InReach Lower n m → InReach Upper n m
 lower_in_upper h = record { n_hi = omega (arith, h.n_hi); m_lo = h.m_lo; m_hi = h.m_hi }
-
-pub upper_reach : (side : Side) {n m : ℕ} → InReach side n m → InReach Upper n m
-upper_reach Lower h = lower_in_upper h
-upper_reach Upper h = h
 
 pub side_reach : (side : Side) {n m : ℕ} → InReach Lower n m → InReach side n m
 side_reach Lower h = h
@@ -82,20 +80,22 @@ module _ (rule : AdviceRule) (z : RuleSizes rule) where
   abbrev pub read_rule_edge : Reading rule.edge
   read_rule_edge = bounded_absolute rule.edge most_edge z.edge_hi
 
--- a rule is its four numbers
-pub same_rule : {a a' : ℕ} {q q' x x' i i' : ℤ} → a ≡ a' → q ≡ q' → x ≡ x' → i ≡ i' → ◌≡◌ {A = AdviceRule} (record { strength = a; target = q; speed = x; edge = i }) (record { strength = a'; target = q'; speed = x'; edge = i' })
+-- a side's rule is its four numbers
+pub same_rule : {side : Side} {a a' : ℕ} {q q' x x' i i' : ℤ} → a ≡ a' → q ≡ q' → x ≡ x' → i ≡ i' → ◌≡◌ {A = AdviceRule} (record { side = side; strength = a; target = q; speed = x; edge = i }) (record { side = side; strength = a'; target = q'; speed = x'; edge = i' })
 same_rule f g h k = cc
 
--- the comparison of a side that is known
-pub lower_comparison : {side : Side} (height edge : ℤ) → side ≡ Lower → le_z height edge ≡ height_not_beyond side height edge
-lower_comparison height edge is = ap (λ (side : Side). height_not_beyond side height edge) (sym is)
+-- a side's comparison of two numbers that the code reads
+module _ (side : Side) {s t : ℤ} (x : Reading s) (y : Reading t) where
+  pub comparison_is : T (x.guard && y.guard) → height_not_beyond side s t ≡ height_not_beyond side x.number y.number
+  comparison_is g = ap₂ (height_not_beyond side) (x.is (and_l x.guard y.guard g)) (y.is (and_r x.guard y.guard g))
 
-pub upper_comparison : {side : Side} (height edge : ℤ) → side ≡ Upper → le_z edge height ≡ height_not_beyond side height edge
-upper_comparison height edge is = ap (λ (side : Side). height_not_beyond side height edge) (sym is)
+abbrev pub plain_comparison : (side : Side) {s t : ℤ} → Reading s → Reading t → Plain (height_not_beyond side s t)
+plain_comparison side x y = record { value = height_not_beyond side x.number y.number; guard = x.guard && y.guard; is = comparison_is side x y }
 
 -- `search numbers` finds the reading of a machine term, where the sizes of its question or rule and the reach of its instant are in scope
 pub ruleset numbers = (
   plain_terms,
+  plain_comparison,
   read_n,
   read_m,
   read_half_height,
@@ -202,10 +202,6 @@ rule_sizes Upper s z = record {
 }
 
 -- ---- the missing speed
-max0_size : (z : ℤ) → max0 z ≤ nat_abs z
-max0_size (pos n) = omega arith
-max0_size (negsuc n) = omega arith
-
 pub missing_size : (rule : AdviceRule) → RuleSizes rule → missing rule ≤ most_missing Lower
 missing_size rule z = omega (arith, max0_size (rule.target -ℤ rule.speed), size (rule.target -ℤ rule.speed) (search numbers depth 20) tt)
 

@@ -53,6 +53,7 @@ signed_product false true a (suc b) = refl
 signed_product false false a b = refl
 
 -- ---- sums
+-- (the library's `sub-mul` is of a ring, where b + (a − b) is a; naturals have `mul-sub` alone)
 difference_times : (a b c : ℕ) → (a - b) * c ≡ a * c - b * c
 difference_times a b c = mul_comm (a - b) c ∙ mul-sub c a b ∙ ap₂ (λ (x y : ℕ). x - y) (mul_comm c a) (mul_comm c b)
 

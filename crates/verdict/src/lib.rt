@@ -51,14 +51,14 @@ fn two_sided_verdict(lower: Option<Instant>, upper: Option<Instant>) -> Verdict
     }
 }
 
-// The verdict where the window is empty.
-fn empty_verdict(question: Question) -> Verdict
-    ensures { result ≡ verdict_of question None None }
+// From the times shown on the two sides; a one-sided question has only the lower one.
+fn verdict_of(question: Question, lower: Option<Instant>, upper: Option<Instant>) -> Verdict
+    ensures { result ≡ verdict_of question lower upper }
 {
     if two_sided(question) {
-        return Verdict::Clear(ClearSides::Both);
+        return two_sided_verdict(lower, upper);
     }
-    Verdict::Clear(ClearSides::Lower)
+    one_sided_verdict(lower)
 }
 
 // The verdict where the window opens at a start.
@@ -74,17 +74,18 @@ fn open_verdict(question: Question, s: SizedQuestion, start: Instant) -> Verdict
         },
         start,
     );
-    if two_sided(question) {
-        let upper = time_shown(
+    let upper = if two_sided(question) {
+        time_shown(
             SideQuestion {
                 side: Side::Upper,
                 question: s,
             },
             start,
-        );
-        return two_sided_verdict(lower, upper);
-    }
-    one_sided_verdict(lower)
+        )
+    } else {
+        None
+    };
+    verdict_of(question, lower, upper)
 }
 
 // The verdict on an accepted question.
@@ -93,7 +94,7 @@ pub fn verdict_on(asked: AcceptedQuestion) -> Verdict
 {
     let s = sensed_question(asked);
     match opening(s) {
-        None => empty_verdict(asked.question),
+        None => verdict_of(asked.question, None, None),
         Some(start) => open_verdict(asked.question, s, start),
     }
 }

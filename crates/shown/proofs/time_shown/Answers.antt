@@ -34,14 +34,11 @@ not_beyond-requires c =
 pub returns-then-not_beyond : goal.returns-then-not_beyond
 returns-then-not_beyond c = first_hit c.args.asked.question.sensed c.args.start c.requires c.args.asked.side (sym c.not_beyond.ensures ∙ c.if-not_beyond.true)
 
-pub from_delay-requires-clause-starts : goal.from_delay-requires-clause-starts
-from_delay-requires-clause-starts c = (opened_at c.args.asked.question.sensed c.args.start c.requires).0
+pub invariant_of-from_delay : goal.invariant_of-from_delay
+invariant_of-from_delay c = let opens = opened_at c.args.asked.question.sensed c.args.start c.requires in record { starts = opens.0; opened = opens.1 }
 
-pub from_delay-requires-clause-opened : goal.from_delay-requires-clause-opened
-from_delay-requires-clause-opened c = (opened_at c.args.asked.question.sensed c.args.start c.requires).1
-
-pub from_delay-requires-clause-tried : goal.from_delay-requires-clause-tried
-from_delay-requires-clause-tried c =
+pub from_delay-requires : goal.from_delay-requires
+from_delay-requires c =
     (missed c.args.asked.side Lower c.args.asked.question.sensed c.args.start c.in-Lower.is c.requires (sym c.not_beyond.ensures ∙ c.if-not_beyond.false)).start
 
 pub returns-in-Lower : goal.returns-in-Lower
