@@ -48,7 +48,7 @@ fn maintainable(code: u8, v: i64) -> bool
 }
 
 // A question by code as a free one: refusal 17 for a speed that can't be maintained, 9 for codes that are not judged, 8 for unknown ones.
-#[tactic(auto, unfolding(crate::specs::Coded::coded_question))]
+#[tactic(auto, using(advisory::proofs::Limits::in_limits), unfolding(crate::specs::Coded::coded_question))]
 pub fn coded_question(code: u8, v: i64, limit: i64) -> Result<Question, Refusal>
     ensures { result ≡ coded_question code v limit }
 {
