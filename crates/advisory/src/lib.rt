@@ -6,11 +6,11 @@ ghost use Rattle.advisory.specs.Catalogue.{sense_of_code, target_of, catalogue_o
 ghost use Rattle.advisory.specs.ReactionTable.{reaction_table, row_at, row_of};
 ghost use Rattle.advisory.specs.Advised.{advised_of};
 
-// The way an advisory sends the ownship.
+// The way an advisory sends the ownship, with the number that a question has for it.
 #[derive(Clone, Copy)]
 pub enum Sense {
-    Climb,
-    Descend,
+    Descend = 0,
+    Climb = 1,
 }
 
 // The vertical speed to reach. Upward speeds are positive in both senses; a grain per second is a foot per minute.

@@ -12,8 +12,9 @@ use Rattle.flight.specs.declared.Stretch.{Stretch}
 use Rattle.flight.specs.HandedIn.{flight_of}
 use Rattle.flight.specs.SensedFlight.{sensed_flight}
 use Rattle.flight.specs.inner.Tests.{obeys_test, first_inside}
-use Rattle.candidate.specs.declared.OneSidedAdvice.{OneSidedAdvice}
-use Rattle.candidate.specs.Advice.{asked, flight_refusal}
+use Rattle.question.specs.declared.one_sided_advice.OneSidedAdvice.{OneSidedAdvice}
+use Rattle.question.specs.OneSided.{asked}
+use Rattle.candidate.specs.Advice.{flight_refusal}
 use Rattle.question.specs.declared.refusal.Refusal.{Refusal}
 use Rattle.candidate.specs.declared.Flown.{Flown}
 

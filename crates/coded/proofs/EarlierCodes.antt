@@ -7,6 +7,7 @@ use mathlib.Core.Logic.{◌⊎◌, inl, inr, ⊎_elim, ◌↔◌}
 use Prim.Native.Nat.{ℕ}
 use native.Mathlib.Omega.{arith}
 use borrow.Author.Tests.{eqb-true, eq-eqb}
+use Rattle.std.proofs.lemmas.Bool.{true≢false}
 use lib.Dec.{T, eqb}
 use lib.IntN.{ℤ, pos}
 use lib.Signed.{le_z, ◌≤ℤ◌, ◌<ℤ◌, le_z_yes, clash_ℤ}
@@ -41,17 +42,14 @@ pub record OnlySeventeen (code : ℕ) (v limit : ℤ) : Type 0 where
   pub otherwise : ¬ (coded_question code v limit ≡ Err Refusal.NeverIssued) → coded_question code v limit ≡ earlier_question code v limit
 
 -- ---- the test, by its parts
-differ : ¬ (true ≡ false)
-differ e = subst T e tt
-
 either : (a b c d : Bool) → (not a || b) && (not c || d) ≡ false → ((a ≡ true) × (b ≡ false)) ⊎ ((c ≡ true) × (d ≡ false))
 either true false c d e = inl (refl, refl)
 either true true true false e = inr (refl, refl)
-either true true true true e = absurd (differ e)
-either true true false d e = absurd (differ e)
+either true true true true e = absurd (true≢false e)
+either true true false d e = absurd (true≢false e)
 either false b true false e = inr (refl, refl)
-either false b true true e = absurd (differ e)
-either false b false d e = absurd (differ e)
+either false b true true e = absurd (true≢false e)
+either false b false d e = absurd (true≢false e)
 
 fails : (a b c d : Bool) → ((a ≡ true) × (b ≡ false)) ⊎ ((c ≡ true) × (d ≡ false)) → (not a || b) && (not c || d) ≡ false
 fails a b c d (inl h) = ap₂ (λ (a b : Bool). (not a || b) && (not c || d)) h.0 h.1

@@ -25,7 +25,8 @@ use Rattle.flight.proofs.ObeyingTests.{obeys_decided}
 use Rattle.flight.proofs.InsideTests.{right_entry}
 use Rattle.flight.proofs.ClearVerdict.{accepted_half_height, clear_never_inside}
 use Rattle.candidate.specs.declared.OneSidedAdvice.{OneSidedAdvice}
-use Rattle.candidate.specs.Advice.{asked, flight_refusal}
+use Rattle.question.specs.OneSided.{asked}
+use Rattle.candidate.specs.Advice.{flight_refusal}
 use Rattle.candidate.specs.FlightAnswers.{yes_number, advice_in_sense, flight_in_sense, checked_flight, flight_answer}
 use Rattle.candidate.proofs.RefusedAsAsked.{accepted_flight}
 use Rattle.binding.specs.declared.FlightResult.{FlightResult}

@@ -1,21 +1,13 @@
--- A list of checks that is tested in order: what is left of it; and of two lists one after the other, the second is asked where the first accepts. Assumes
--- nothing.
+-- Of two lists of checks one after the other, the second is asked where the first accepts. Assumes nothing.
 use Rattle.std.specs.Prelude.{Err, Ok, Result, ⊤}
 use mathlib.Core.Path.{◌≡◌, refl, sym, ◌∙◌}
 use mathlib.Core.Bool.{Bool, true, false, cond}
 use mathlib.Core.List.{List, [], ◌∷◌, ◌++◌}
-use Prim.Native.Nat.{ℕ, zero, suc}
+use Prim.Native.Nat.{ℕ}
 use native.Mathlib.Omega.{arith}
 use Rattle.question.specs.Refusals.{Check, first_refusal}
 use Rattle.question.specs.declared.refusal.Refusal.{Refusal}
 
--- the refusal among the checks that are left after the first k
-abbrev pub left : ℕ → List Check → Result ⊤ Refusal
-left zero l = first_refusal l
-left (suc k) [] = first_refusal []
-left (suc k) (c ∷ l) = left k l
-
--- ---- one list after the other
 pub accepted_first : (l r : List Check) → first_refusal l ≡ Ok tt → first_refusal (l ++ r) ≡ first_refusal r
 accepted_first [] r e = refl
 accepted_first (c ∷ l) r e = go (accepted_first l r) c.passes e

@@ -15,12 +15,12 @@ use sensed::sensed_question;
 use shown::time_shown;
 use window::opening;
 
-// The sides without a conflict time.
+// The sides without a conflict time, with their number, which answers carry.
 #[derive(Clone, Copy)]
 pub enum ClearSides {
-    Lower,
-    Upper,
-    Both,
+    Lower = 1,
+    Upper = 2,
+    Both = 3,
 }
 
 // Clear, or a conflict that carries its time; a two-sided conflict carries two, the lower one first.
