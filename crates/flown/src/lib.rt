@@ -65,13 +65,18 @@ impl<'a> Flight<'a> {
         ensures { (result.second.n ≡ n) × PlaceAt self.entry.question.sensed self.entry.sense self.entry.numbers.now result }
     {
         let mut later = left;
-        let stretch = match later.next() {
-            Some(stretch) => sensed_stretch(self.sense, stretch),
-            None => Stretch {
+        let Some(stretch) = later.next() else {
+            let motion = Motion {
                 acceleration: 0,
-                seconds: 0,
-            },
+                ..motion
+            };
+            return Place {
+                second: Second { n, motion },
+                left: 0,
+                later,
+            };
         };
+        let stretch = sensed_stretch(self.sense, stretch);
         let motion = Motion {
             acceleration: stretch.acceleration,
             ..motion
