@@ -43,14 +43,14 @@ fn answer_fits(sheet: CheckedSheet, room: usize) -> bool
 }
 
 // Writes a sheet's answer, and says how long it is.
-#[tactic(auto, using(crate::proofs::AnswerOfReplies::answer_is))]
+#[tactic(auto, using(crate::proofs::AnswerOfReplies::answer_is, reply::proofs::Writing::stored_from))]
 fn write_answer(sheet: CheckedSheet, area: &mut [u8]) -> usize
     requires { length (sheet_answer sheet.bytes.now) ≤ length area.old }
     ensures { (result ≡ length (sheet_answer sheet.entry.bytes.now)) × (area.new ≡ sets area.old 0 (sheet_answer sheet.entry.bytes.now)) }
 {
     let mut total = 0;
     for reply in Replies::of(sheet) {
-        write_reply(area, total, reply);
+        write_reply(&mut area[total..], reply);
         total += reply_length(reply);
     }
     total
