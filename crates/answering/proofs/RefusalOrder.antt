@@ -12,6 +12,7 @@ use lib.Signed.{le_z}
 use lib.Ieee.Bits.{is_true}
 use lib.Ieee.Fits.{and_l, and_r}
 use Rattle.std.specs.Cmp.Derive.{both_true}
+use Rattle.std.proofs.lemmas.Bool.{and_left, and_right}
 use Rattle.advisory.specs.declared.Instruction.{Instruction}
 use Rattle.advisory.specs.declared.Sense.{Sense}
 use Rattle.advisory.specs.declared.Sense.TheVariants.{Climb, Descend}
@@ -27,7 +28,8 @@ use Rattle.verdict.specs.declared.Verdict.{Verdict}
 use Rattle.limits.specs.Limits.{distance_within, height_within, closing_speed_within, max_speed, speed_within, min_strength, max_strength, strength_within, max_delay, delay_within}
 use Rattle.question.specs.Refusals.{is_number, encounter_within, puck_within, delay_acceleration_within, sides_known, targets_within, strengths_within, times_within, limit_allowed, first_refusal, question_checks, refusal}
 use Rattle.sensed.specs.Sensed.{sensed_question}
-use Rattle.coded.specs.Coded.{sense_number, instructed, maintainable, asked, coded_question}
+use Rattle.coded.specs.Coded.{instructed, maintainable, asked, coded_question}
+use Rattle.coded.proofs.SenseNumbers.{sense_known}
 use Rattle.verdict.specs.Verdicts.{verdict}
 use Rattle.judge.specs.Answers.{checked_answer, answer}
 use Rattle.std.proofs.lemmas.Bool.{cond-true, cond-false}
@@ -37,14 +39,6 @@ use Rattle.answering.specs.States.{StoredEncounterWithin, StoredWithin}
 use Rattle.answering.specs.Replies.{asked_answer, coded_answer, free_answer, code_from, coded_checks, free_checks, refusal_in}
 use Rattle.advisory.specs.declared.CodeError.{CodeError}
 use Rattle.question.specs.declared.refusal.Refusal.{Refusal}
-
--- ---- tests that fail
-fails_left : {a : Bool} (b : Bool) → a ≡ false → a && b ≡ false
-fails_left b e = ap (λ (x : Bool). x && b) e
-
-fails_right : (a : Bool) {b : Bool} → b ≡ false → a && b ≡ false
-fails_right true e = e
-fails_right false e = refl
 
 -- ---- the plain judge, where the encounter and the settings are within their limits: the question's own numbers
 refused_is : (k : Result ⊤ Refusal) (v : Verdict) → refusal_in (checked_answer k v) ≡ k
@@ -66,10 +60,6 @@ module _ (x : Encounter) (y : Settings) (met : T (encounter_within x)) (puck : T
       let c = closing_speed_within x.closing_speed in
       let v = speed_within x.speed in
       between (neg_ℤ (pos max_speed)) (pos max_speed) x.speed (and_r ((r && h) && c) v (and_l (((r && h) && c) && v) (speed_within x.intruder_speed) met))
-
-  sense_known : (s : Sense) → (is_number (pos 0) (sense_number s) || is_number (pos 1) (sense_number s)) ≡ true
-  sense_known Climb = refl
-  sense_known Descend = refl
 
   module _ (i : Instruction) (limits : InLimits i) (limit : ℤ) where
     sides_pass : sides_known (instructed i x.speed limit) ≡ true
@@ -112,9 +102,9 @@ module _ (x : Encounter) (y : Settings) (met : T (encounter_within x)) (puck : T
       maintained_order i (limits i refl) limit (maintainable code x.speed)
       ∙ sym (cond-true (code_from 1 18 code) _ _ (both_true (le-leb 1 code (omega arith)) (le-leb code 18 (omega arith))) ∙ cond-true (code_from 1 16 code) _ _ (both_true (le-leb 1 code (omega arith)) (le-leb code 16 (omega arith))))
   asked_order code limit (Err CodeError.NotJudged) limits stands =
-      sym (cond-true (code_from 1 18 code) _ _ (both_true (le-leb 1 code (omega arith)) (le-leb code 18 (omega arith))) ∙ cond-false (code_from 1 16 code) _ _ (fails_right (leb 1 code) (lt-leb code 16 (omega arith))))
+      sym (cond-true (code_from 1 18 code) _ _ (both_true (le-leb 1 code (omega arith)) (le-leb code 18 (omega arith))) ∙ cond-false (code_from 1 16 code) _ _ (and_right (leb 1 code) (leb code 16) (lt-leb code 16 (omega arith))))
   asked_order code limit (Err CodeError.Unknown) limits stands =
-      sym (cond-false (code_from 1 18 code) _ _ (⊎_elim (λ low. fails_left (leb code 18) (lt-leb 1 code low)) (λ high. fails_right (leb 1 code) (lt-leb code 18 high)) stands))
+      sym (cond-false (code_from 1 18 code) _ _ (⊎_elim (λ low. and_left (leb 1 code) (leb code 18) (lt-leb 1 code low)) (λ high. and_right (leb 1 code) (leb code 18) (lt-leb code 18 high)) stands))
 
 -- ---- the theorems
 free_from : (m : Option Encounter) (y : Settings) → StoredEncounterWithin m → T (puck_within y) → T (delay_acceleration_within y) → (z : Question)
