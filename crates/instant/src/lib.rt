@@ -15,7 +15,7 @@ pub struct Instant {
 }
 
 // A time as it is shown: whole seconds, and remainder/divisor of a second in lowest terms.
-#[derive(Clone, Copy)]
+#[derive(Clone, Copy, Default)]
 pub struct Time {
     pub seconds: u64,
     pub remainder: u64,
