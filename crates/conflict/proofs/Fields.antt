@@ -2,6 +2,7 @@
 use mathlib.Core.Path.{◌≡◌, refl, ap, ap₂, ◌∙◌}
 use mathlib.Core.Bool.{◌&&◌}
 use mathlib.Core.List.{[], ◌∷◌}
+use mathlib.Core.Logic.{inl, inr}
 use Prim.Native.Nat.{ℕ, ◌+◌, ◌*◌, ◌<◌, ◌≤◌}
 use native.Mathlib.Nat.{mul-le-mul}
 use native.Mathlib.Omega.{arith}
@@ -28,7 +29,7 @@ use Rattle.path.specs.declared.side_question.SideQuestion.{SideQuestion}
 use Rattle.path.specs.declared.sized_question.SizedQuestion.{SizedQuestion}
 use Rattle.path.specs.Letters.{k, wh, u, q, d, e, upper_q}
 use Rattle.path.specs.Paths.{delay_height, u_d, speed_reached, upper_target}
-use Rattle.path.specs.inner.Sizes.{max_speed_difference, max_speed_after_delay, Sizes, Sized, farthest, InReach}
+use Rattle.path.specs.inner.Sizes.{max_speed_difference, max_speed_after_delay, Sizes, Sized, farthest, Compared}
 use Rattle.window.proofs.Fields.{read_n, read_m, size}
 use Rattle.conflict.specs.declared.AdviceRule.{AdviceRule}
 use Rattle.conflict.specs.inner.Divided.{height_not_beyond, bend, speed_after_delay, edge_height, target_of, rule_edge, rule_of, missing}
@@ -37,14 +38,6 @@ use Rattle.conflict.specs.inner.RuleSizes.{most_start, most_edge, RuleSizes, mos
 -- ---- a call's result, which fits and equals t; no bound is known
 abbrev pub read_call : {x t : ℤ} → SFits w64 x → x ≡ t → Reading (to_z w64 (of_z w64 x))
 read_call {x} {t} f h = equal_to (to_z-of_z f ∙ h) (unbounded t)
-
--- ---- an instant of the lower side is one of the upper
-lower_in_upper : {n m : ℕ} → InReach Lower n m → InReach Upper n m
-lower_in_upper h = record { n_hi = omega (arith, h.n_hi); m_lo = h.m_lo; m_hi = h.m_hi }
-
-pub side_reach : (side : Side) {n m : ℕ} → InReach Lower n m → InReach side n m
-side_reach Lower h = h
-side_reach Upper h = lower_in_upper h
 
 -- ---- a question
 module _ (s : SensedQuestion) (z : Sizes s) where
@@ -210,11 +203,18 @@ missing_most Lower s z = missing_size (rule_of Lower s) (rule_sizes Lower s z)
 missing_most Upper s z = maxℤ_above (upper_q s) (speed_reached s) max_speed_difference (by≤ (e s ∷ d s ∷ []) (u s ∷ upper_q s ∷ []) (gap≤ z.1.change) (λ v. search quote depth 20) tt)
 
 -- ---- an arc: its strength times n is below the missing speed times m
+missing_most_lower : (side : Side) → most_missing side ≤ most_missing Lower
+missing_most_lower Lower = lit≤ tt
+missing_most_lower Upper = lit≤ tt
+
 most_bend_lem : (side : Side) → most_missing side * max_closing_speed * farthest side ≤ most_bend
 most_bend_lem Lower = lit≤ tt
 most_bend_lem Upper = lit≤ tt
 
-pub bend_size : (side : Side) (g i n m : ℕ) → g ≤ most_missing side → InReach side n m → i < g * m → i * n ≤ most_bend
-bend_size side g i n m z h l =
+pub bend_size : (side : Side) (g i n m : ℕ) → g ≤ most_missing side → Compared side n m → i < g * m → i * n ≤ most_bend
+bend_size side g i n m z (inl h) l =
     let x : i ≤ most_missing side * max_closing_speed = omega (arith, mul-le-mul z h.m_hi) in
     omega (arith, mul-le-mul x h.n_hi, most_bend_lem side)
+bend_size side g i n m z (inr (h, e)) l =
+    let x : i ≤ most_missing Lower = omega (arith, l, ap (λ (x : ℕ). g * x) e, missing_most_lower side, z) in
+    omega (arith, mul-le-mul x h.n_hi)

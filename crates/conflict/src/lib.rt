@@ -13,7 +13,7 @@ ghost use Rattle.path.specs.declared.Side.TheVariants.{Lower, Upper};
 ghost use Rattle.path.specs.Letters.{u};
 ghost use Rattle.path.specs.Paths.{delay_height};
 ghost use Rattle.path.specs.inner.Tests.{not_beyond};
-ghost use Rattle.path.specs.inner.Sizes.{InReach};
+ghost use Rattle.path.specs.inner.Sizes.{Compared, InReach};
 ghost use Rattle.conflict.specs.inner.Divided.{bend, speed_after_delay, edge_height, height_not_beyond, delay_not_beyond, strength_of, target_of, rule_of, rule_not_beyond, missing, arc_not_beyond, straight_not_beyond};
 ghost use Rattle.conflict.specs.inner.RuleSizes.{RuleSizes, most_missing, most_bend};
 ghost use Rattle.conflict.specs.inner.DifferenceRange.{max_operand};
@@ -198,7 +198,7 @@ impl AdviceRule {
     fn not_beyond(self, since: Instant) -> bool
         requires rule_sizes { RuleSizes self }
         requires missing_within { missing self ≤ most_missing self.side }
-        requires in_reach { InReach self.side since.n since.m }
+        requires in_reach { Compared self.side since.n since.m }
         ensures { result ≡ rule_not_beyond self since.n since.m }
     {
         let gap = self.missing_speed();
@@ -211,7 +211,7 @@ impl AdviceRule {
 
 // Is a side's path "not strictly beyond" the puck's edge at an instant? Up to d the delay says, then the rule.
 pub fn not_beyond(asked: SideQuestion, t: Instant) -> bool
-    requires { InReach asked.side t.n t.m }
+    requires { Compared asked.side t.n t.m }
     ensures { result ≡ not_beyond asked.side asked.question.sensed t.n t.m }
 {
     let end = asked.question.sensed.delay * t.m;
