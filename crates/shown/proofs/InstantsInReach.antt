@@ -26,9 +26,9 @@ use Rattle.path.specs.Instants.{Among, turning_instant, path_instants, instants}
 use Rattle.path.specs.inner.Sizes.{max_speed_after_delay, Sizes, Sized, farthest, InReach, search_end}
 use Rattle.path.proofs.Membership.{among_one, among_either}
 use Rattle.path.proofs.WindowEnds.{endless_start}
+use Rattle.path.proofs.Reach.{side_reach}
 use Rattle.path.proofs.SideSizes.{sizes_of}
 use Rattle.path.proofs.SideProfiles.{Hit, Endless, conflict_instant, reaches_end}
-use Rattle.conflict.proofs.Fields.{side_reach}
 use Rattle.window.proofs.EndsInReach.{Near, near_sized, second_near, window_start_near, window_end_near}
 use Rattle.shown.specs.TimeRule.{Picks}
 

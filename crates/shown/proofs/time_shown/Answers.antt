@@ -4,6 +4,7 @@ use Rattle.std.specs.Option.{option_to_list}
 use mathlib.Core.Path.{◌≡◌, sym, ap, ◌∙◌, subst}
 use mathlib.Core.Bool.{false}
 use mathlib.Core.List.{◌++◌}
+use mathlib.Core.Logic.{inl}
 use Rattle.instant.specs.declared.Instant.{Instant}
 use Rattle.path.specs.declared.SensedQuestion.{SensedQuestion}
 use Rattle.path.specs.declared.Side.{Side}
@@ -11,7 +12,7 @@ use Rattle.path.specs.declared.Side.TheVariants.{Lower, Upper}
 use Rattle.path.specs.Window.{window_end}
 use Rattle.path.specs.Instants.{path_instants}
 use Rattle.path.specs.inner.Tests.{opening, not_beyond}
-use Rattle.conflict.proofs.Fields.{side_reach}
+use Rattle.path.proofs.Reach.{side_reach}
 use Rattle.window.proofs.EndsInReach.{Near, window_start_near}
 use Rattle.shown.specs.TimeShown.{approaches, shown_from, time_shown}
 use Rattle.shown.specs.inner.Steps.{StartTried, InstantsTried}
@@ -29,7 +30,7 @@ missed side x s start is e n = subst (λ (x : Side). Missed x s (time_shown side
 pub not_beyond-requires : goal.not_beyond-requires
 not_beyond-requires c =
     let s = c.args.asked.question.sensed in
-    side_reach c.args.asked.side (subst Near (sym (opened_at s c.args.start c.requires).0) (window_start_near s c.args.asked.question.sizes))
+    inl (side_reach c.args.asked.side (subst Near (sym (opened_at s c.args.start c.requires).0) (window_start_near s c.args.asked.question.sizes)))
 
 pub returns-then-not_beyond : goal.returns-then-not_beyond
 returns-then-not_beyond c = first_hit c.args.asked.question.sensed c.args.start c.requires c.args.asked.side (sym c.not_beyond.ensures ∙ c.if-not_beyond.true)

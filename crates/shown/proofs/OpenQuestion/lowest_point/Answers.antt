@@ -1,5 +1,6 @@
 -- `shown::OpenQuestion::lowest_point` meets its contract: the turning instant and the window's start are in reach.
 use mathlib.Core.Path.{sym, ◌∙◌, subst}
+use Rattle.path.proofs.Reach.{lower_in_upper}
 use Rattle.window.proofs.EndsInReach.{Near, near_sized, window_start_near}
 use Rattle.shown.proofs.InstantsInReach.{turning_reach}
 use Rattle.shown.proofs.OpenQuestion.lowest_point.Goals as goal
@@ -14,4 +15,5 @@ no_later-requires c =
     )
 
 pub in_window-requires : goal.in_window-requires
-in_window-requires c = turning_reach c.args.self.question.sensed c.args.self.question.sizes c.in-Some.t (sym c.turning_instant.ensures ∙ c.in-Some.is)
+in_window-requires c =
+    lower_in_upper (turning_reach c.args.self.question.sensed c.args.self.question.sizes c.in-Some.t (sym c.turning_instant.ensures ∙ c.in-Some.is))
