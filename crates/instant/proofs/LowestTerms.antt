@@ -30,15 +30,15 @@ module _ (n m : ℕ) (m-pos : 0 < m) where
       let g = gcd m r in
       let G = gcd_greatest m r in
       let g-pos = gcd_pos m r m-pos in
-      let er : r / g * g ≡ r = div-mul_cancel g G.right in
-      let em : m / g * g ≡ m = div-mul_cancel g G.left in
+      let er : r / g * g ≡ r = div-mul_cancel g G.1 in
+      let em : m / g * g ≡ m = div-mul_cancel g G.0 in
       let en : n / m * m + r ≡ n = div-add-mod' n m in
       let r-lt : r < m = mod-lt n m-pos in
       record {
         value = omega (arith, ap (λ (x : ℕ). r / g * x) em, ap (λ (x : ℕ). x * (m / g)) er, ap (λ (x : ℕ). x * (m / g)) en);
         below = lt_of_mul-lt-mul_right g {m = r / g} {n = m / g} (omega arith);
         apart = λ k i j.
-            let both : k * g ∣ g = G.most (k * g) (rw em at (mul-dvd-mul_right k j g)) (rw er at (mul-dvd-mul_right k i g)) in
+            let both : k * g ∣ g = G.2 (k * g) (rw em at (mul-dvd-mul_right k j g)) (rw er at (mul-dvd-mul_right k i g)) in
             le_of_dvd (zero-lt-suc 0) (dvd_of_mul-dvd-mul_right k g-pos (subst (λ (x : ℕ). k * g ∣ x) (sym (one-mul g)) both));
       }
 
