@@ -1,7 +1,7 @@
 -- "Coded: 7, 8, 9, 6.", with 17 "after 9 and before 6". Free: 7, 4, 5, 14, 15, 16, 6. In every state that a sheet can reach, a question's refusal is the first that its list of tests gives. Assumes nothing.
 use Rattle.std.specs.Prelude.{Err, None, Ok, Option, Result, Some, ⊤}
 use mathlib.Core.Path.{◌≡◌, refl, sym, ap, ◌∙◌}
-use mathlib.Core.Bool.{Bool, true, false, cond, ◌&&◌, ◌||◌}
+use mathlib.Core.Bool.{Bool, true, false, cond, ◌&&◌}
 use mathlib.Core.Logic.{⊎_elim}
 use Prim.Native.Nat.{ℕ, ◌<◌}
 use native.Mathlib.Omega.{arith}
@@ -14,8 +14,6 @@ use lib.Ieee.Fits.{and_l, and_r}
 use Rattle.std.specs.Cmp.Derive.{both_true}
 use Rattle.std.proofs.lemmas.Bool.{and_left, and_right}
 use Rattle.advisory.specs.declared.Instruction.{Instruction}
-use Rattle.advisory.specs.declared.Sense.{Sense}
-use Rattle.advisory.specs.declared.Sense.TheVariants.{Climb, Descend}
 use Rattle.advisory.specs.Catalogue.{rate_of}
 use Rattle.advisory.specs.Advised.{advised_of}
 use Rattle.advisory.specs.inner.Codes.{Standing, InLimits}
@@ -26,7 +24,7 @@ use Rattle.question.specs.declared.Settings.{Settings}
 use Rattle.question.specs.declared.Question.{Question}
 use Rattle.verdict.specs.declared.Verdict.{Verdict}
 use Rattle.limits.specs.Limits.{distance_within, height_within, closing_speed_within, max_speed, speed_within, min_strength, max_strength, strength_within, max_delay, delay_within}
-use Rattle.question.specs.Refusals.{is_number, encounter_within, puck_within, delay_acceleration_within, sides_known, targets_within, strengths_within, times_within, limit_allowed, first_refusal, question_checks, refusal}
+use Rattle.question.specs.Refusals.{encounter_within, puck_within, delay_acceleration_within, sides_known, targets_within, strengths_within, times_within, limit_allowed, first_refusal, question_checks, refusal}
 use Rattle.sensed.specs.Sensed.{sensed_question}
 use Rattle.coded.specs.Coded.{instructed, maintainable, asked, coded_question}
 use Rattle.coded.proofs.SenseNumbers.{sense_known}

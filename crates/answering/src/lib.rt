@@ -69,7 +69,7 @@ impl State {
         (next.unwrap_or(self), next.err().map(Err))
     }
 
-    // Refusal 1.
+    // The state with an encounter, or refusal 1.
     fn with_encounter(self, met: Encounter) -> Result<State, Refusal>
         ensures { result ≡ cond (encounter_within met) (Ok (with_encounter self met)) (Err EncounterOutside) }
     {
@@ -82,7 +82,7 @@ impl State {
         })
     }
 
-    // Refusal 2.
+    // The state with a puck, or refusal 2.
     fn with_puck(self, settings: Settings) -> Result<State, Refusal>
         ensures { result ≡ cond (puck_within settings) (Ok (with_settings self settings)) (Err PuckOutside) }
     {
@@ -92,7 +92,7 @@ impl State {
         Ok(State { settings, ..self })
     }
 
-    // Refusal 3.
+    // The state with a delay acceleration, or refusal 3.
     fn with_delay_acceleration(self, settings: Settings) -> Result<State, Refusal>
         ensures { result ≡ cond (delay_acceleration_within settings) (Ok (with_settings self settings)) (Err DelayAccelerationOutside) }
     {

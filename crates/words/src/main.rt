@@ -2,13 +2,10 @@
 // What is said of a record is the reply that `answering::State::answer` gives it: nothing is judged here.
 #![tactic(auto)]
 
-ghost use Rattle.std.specs.Prelude.{◌≡◌, Ok};
-ghost use Rattle.record.specs.SheetCheck.{sheet_check};
-
 use answering::State;
 use question::{Encounter, Refusal};
 use reading::{NAME_ROOM, argument, argument_count, open_named, read_full, say_unread};
-use record::{Record, check_sheet, next_at, record_at};
+use record::{CheckedSheet, Record, next_at, record_at};
 use std::rt::{Env, Files};
 use std::{fmt, io};
 use verdict::Verdict;
@@ -123,11 +120,10 @@ fn print_answer(
     Ok(())
 }
 
-// All records of an accepted sheet, in order. By positions, which the words tell: the iterator over records knows none.
+// All records of a sheet, in order. By positions, which the words tell: the iterator over records knows none.
 #[tactic(auto, using(record::proofs::Scan::whole_record))]
-fn print_answers(out: &impl Print, sheet: &[u8]) -> io::Result<()>
-    requires { sheet_check sheet.now ≡ Ok tt }
-{
+fn print_answers(out: &impl Print, checked: CheckedSheet) -> io::Result<()> {
+    let sheet = checked.bytes;
     let (mut at, mut records, mut answers) = (0, 0, 0);
     let mut state = State::new();
     let mut notes = Notes::default();
@@ -150,7 +146,8 @@ fn print_answers(out: &impl Print, sheet: &[u8]) -> io::Result<()>
     println!(out; "records {records}, answers {answers}")
 }
 
-// The first record that is cut short or of unknown kind.
+// The first record that is cut short or of unknown kind. By positions too: the test of a whole sheet says what is wrong and not where, as nothing but this asks
+// for the place, and `Records` walks sheets without a fault.
 fn first_fault(sheet: &[u8]) -> Option<Place> {
     let (mut at, mut record) = (0, 0);
     while at < sheet.len() {
@@ -176,8 +173,8 @@ fn print_refused(out: &impl Print, sheet: &[u8], why: Refusal) -> io::Result<()>
 }
 
 fn print_sheet(out: &impl Print, sheet: &[u8]) -> io::Result<()> {
-    match check_sheet(sheet) {
-        Ok(()) => print_answers(out, sheet),
+    match CheckedSheet::check(sheet) {
+        Ok(checked) => print_answers(out, checked),
         Err(why) => print_refused(out, sheet, why),
     }
 }
