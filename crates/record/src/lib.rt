@@ -66,7 +66,7 @@ pub enum Record {
     Free(Question),
 }
 
-const MAX_SHEET: usize = 8192;
+pub const MAX_SHEET: usize = 8192;
 
 // The four bytes at a position, unsigned.
 pub fn word_at(bytes: &[u8], at: usize) -> u64

@@ -3,10 +3,9 @@
 // `cargo run --profile checked --bin sheets ../crates/sheets`, run in `compare/`, writes the files, `args` and `stdout`: the answers are the independent implementation's.
 #![tactic(auto)]
 
-use program::{program_output, read_room};
-use reading::{NAME_ROOM, argument, argument_count, open_named, read_full, say_unread};
+use program::answer_read;
+use reading::{NAME_ROOM, argument, argument_count, open_named, say_unread};
 use std::io;
-use std::io::Read;
 use std::rt::{Env, Files};
 
 fn print_bytes(out: &impl Print, bytes: &[u8]) -> io::Result<()> {
@@ -16,22 +15,15 @@ fn print_bytes(out: &impl Print, bytes: &[u8]) -> io::Result<()> {
     Ok(())
 }
 
-fn answer_file<P: Print, R: Read>(out: &P, file: &mut R) -> io::Result<()> {
-    let mut sheet = read_room();
-    let read = read_full(file, &mut sheet)?;
-    let output = program_output(&sheet[..read]);
-    print_bytes(out, &output.area[..output.length])
-}
-
 fn answer_argument<R: Print + Eprint + Files + Env>(rt: &R, k: usize) -> io::Result<()> {
-    let mut name = [0u8; NAME_ROOM];
-    let length = argument(rt, k, &mut name);
-    let name = &name[..length];
+    let mut room = [0u8; NAME_ROOM];
+    let name = argument(rt, k, &mut room);
     match open_named(rt, name) {
         Ok(mut file) => {
+            // A file's name is bytes, perhaps no text: `print!` takes none.
             rt.write_all(name)?;
             print!(rt; " ")?;
-            answer_file(rt, &mut file)?;
+            print_bytes(rt, answer_read(&mut file)?.bytes())?;
             println!(rt; "")
         }
         Err(error) => say_unread(rt, name, error),

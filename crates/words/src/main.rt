@@ -8,7 +8,7 @@ ghost use Rattle.record.specs.SheetCheck.{sheet_check};
 use answering::State;
 use question::{Encounter, Refusal};
 use reading::{NAME_ROOM, argument, argument_count, open_named, read_full, say_unread};
-use record::{Record, check_sheet, next_at, record_at};
+use record::{MAX_SHEET, Record, check_sheet, next_at, record_at};
 use std::rt::{Env, Files};
 use std::{fmt, io};
 use verdict::Verdict;
@@ -16,9 +16,6 @@ use verdict::Verdict;
 mod phrases;
 
 use phrases::Words;
-
-// One byte more than the longest sheet, so that a longer one is seen.
-const SHEET_ROOM: usize = 8193;
 
 // An accepted encounter, and the number of its record.
 #[derive(Clone, Copy)]
@@ -183,14 +180,15 @@ fn print_sheet(out: &impl Print, sheet: &[u8]) -> io::Result<()> {
 }
 
 fn answer_file<P: Print, R: io::Read>(out: &P, file: &mut R) -> io::Result<()> {
-    let mut sheet = [0u8; SHEET_ROOM];
-    let length = read_full(file, &mut sheet)?;
-    print_sheet(out, &sheet[..length])
+    // One byte more than the longest sheet, so that a longer one is seen.
+    let mut room = [0u8; MAX_SHEET + 1];
+    print_sheet(out, read_full(file, &mut room)?)
 }
 
 fn answer_named<R: Print + Eprint + Files>(rt: &R, name: &[u8]) -> io::Result<()> {
     match open_named(rt, name) {
         Ok(mut file) => {
+            // A file's name is bytes, perhaps no text: `println!` takes none.
             rt.write_all(name)?;
             rt.print("\n")?;
             answer_file(rt, &mut file)
@@ -201,8 +199,7 @@ fn answer_named<R: Print + Eprint + Files>(rt: &R, name: &[u8]) -> io::Result<()
 
 fn answer_argument<R: Print + Eprint + Input + Files + Env>(rt: &R, k: usize) -> io::Result<()> {
     let mut room = [0u8; NAME_ROOM];
-    let length = argument(rt, k, &mut room);
-    match &room[..length] {
+    match argument(rt, k, &mut room) {
         b"-" => answer_file(rt, &mut rt.reader()),
         name => answer_named(rt, name),
     }
