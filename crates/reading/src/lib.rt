@@ -1,8 +1,10 @@
 // What the programs read: their arguments, and files or standard input, into rooms that they lend. Nothing here allocates.
 #![tactic(auto)]
 
-ghost use Rattle.std.specs.Prelude.{◌≡◌, ◌≤◌, length, take, IfOk, IfSome, IsUtf8};
+ghost use Rattle.std.specs.Prelude.{◌≡◌, ◌≤◌, List, ℕ, length, take, Err, OnOk, IfOk, IfErr, IfSome, IsUtf8};
+ghost use Rattle.std.specs.Fn.{CalledAt};
 ghost use Rattle.std.specs.Io.KnownBytes.{Consumes};
+ghost use Rattle.reading.specs.Calls.{CalledInTurn};
 
 use std::env::FillError;
 use std::io::Read;
@@ -25,6 +27,23 @@ pub fn argument<'a, E: Env>(env: &E, k: usize, room: &'a mut [u8]) -> &'a [u8]
 {
     let length = env.arg(k, room).unwrap_or(0);
     &room[..length]
+}
+
+// Calls the closure with each argument behind the program's own name, in their order, until a call fails.
+pub fn each_argument<E: Env, F: FnMut(&[u8]) -> io::Result<()>>(
+    env: &E,
+    f: &mut F,
+) -> io::Result<()>
+    requires { F.IsAlwaysCallable f.old }
+    ensures ends { OnOk result ((names : List (List ℕ)) × CalledInTurn F.FnMut f.old names f.new) }
+    ensures stops { IfErr result (λ error. (names : List (List ℕ)) × (name : List ℕ) × (last : F)
+        × CalledInTurn F.FnMut f.old names last × CalledAt F.FnMut last name (Err error) f.new) }
+{
+    let mut room = [0u8; NAME_ROOM];
+    for k in 1..argument_count(env) {
+        f(argument(env, k, &mut room))?;
+    }
+    Ok(())
 }
 
 // Opens the file of that name for reading. A name that is no text is no file's here.
@@ -122,13 +141,26 @@ mod tests {
     fn arguments_are_counted(rt: HostRuntime) {
         let mut room = [0u8; 4];
         assert_eq!(rt; argument_count(&Given {}), 3);
-        assert!(rt; argument(&Given {}, 0, &mut room) == b"name");
+        assert!(rt; argument(&Given {}, 0, &mut room) == b"name".as_slice());
         for k in 1..4 {
             assert!(rt;
                 argument(&Given {}, k, &mut room).is_empty(),
                 "argument {k}"
             );
         }
+    }
+
+    #[test]
+    fn each_argument_but_the_first(rt: HostRuntime) {
+        let mut total = 0usize;
+        let mut add = |name: &[u8]| {
+            total = total.saturating_add(name.len());
+            Ok(())
+        };
+        assert!(rt; each_argument(&Given {}, &mut add).is_ok());
+        assert_eq!(rt; total, 6);
+        let mut fail = |_name: &[u8]| Err(io::Error::from(io::ErrorKind::Other));
+        assert!(rt; each_argument(&Given {}, &mut fail).is_err());
     }
 
     #[test]

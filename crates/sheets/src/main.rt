@@ -4,9 +4,9 @@
 #![tactic(auto)]
 
 use program::answer_read;
-use reading::{NAME_ROOM, argument, argument_count, open_named, say_unread};
+use reading::{each_argument, open_named, say_unread};
 use std::io;
-use std::rt::{Env, Files};
+use std::rt::Files;
 
 fn print_bytes(out: &impl Print, bytes: &[u8]) -> io::Result<()> {
     for byte in bytes {
@@ -15,12 +15,10 @@ fn print_bytes(out: &impl Print, bytes: &[u8]) -> io::Result<()> {
     Ok(())
 }
 
-fn answer_argument<R: Print + Eprint + Files + Env>(rt: &R, k: usize) -> io::Result<()> {
-    let mut room = [0u8; NAME_ROOM];
-    let name = argument(rt, k, &mut room);
+fn answer_named<R: Print + Eprint + Files>(rt: &R, name: &[u8]) -> io::Result<()> {
     match open_named(rt, name) {
         Ok(mut file) => {
-            // A file's name is bytes, perhaps no text: `print!` takes none.
+            // By `write_all`, as a file's name is bytes, perhaps no text.
             rt.write_all(name)?;
             print!(rt; " ")?;
             print_bytes(rt, answer_read(&mut file)?.bytes())?;
@@ -31,8 +29,5 @@ fn answer_argument<R: Print + Eprint + Files + Env>(rt: &R, k: usize) -> io::Res
 }
 
 fn main(rt: HostRuntime) -> io::Result<()> {
-    for k in 1..argument_count(&rt) {
-        answer_argument(&rt, k)?;
-    }
-    Ok(())
+    each_argument(&rt, &mut |name| answer_named(&rt, name))
 }

@@ -7,9 +7,9 @@ ghost use Rattle.record.specs.SheetCheck.{sheet_check};
 
 use answering::State;
 use question::{Encounter, Refusal};
-use reading::{NAME_ROOM, argument, argument_count, open_named, read_full, say_unread};
+use reading::{each_argument, open_named, read_full, say_unread};
 use record::{MAX_SHEET, Record, check_sheet, next_at, record_at};
-use std::rt::{Env, Files};
+use std::rt::Files;
 use std::{fmt, io};
 use verdict::Verdict;
 
@@ -188,7 +188,7 @@ fn answer_file<P: Print, R: io::Read>(out: &P, file: &mut R) -> io::Result<()> {
 fn answer_named<R: Print + Eprint + Files>(rt: &R, name: &[u8]) -> io::Result<()> {
     match open_named(rt, name) {
         Ok(mut file) => {
-            // A file's name is bytes, perhaps no text: `println!` takes none.
+            // By `write_all`, as a file's name is bytes, perhaps no text.
             rt.write_all(name)?;
             rt.print("\n")?;
             answer_file(rt, &mut file)
@@ -197,17 +197,13 @@ fn answer_named<R: Print + Eprint + Files>(rt: &R, name: &[u8]) -> io::Result<()
     }
 }
 
-fn answer_argument<R: Print + Eprint + Input + Files + Env>(rt: &R, k: usize) -> io::Result<()> {
-    let mut room = [0u8; NAME_ROOM];
-    match argument(rt, k, &mut room) {
+fn answer_argument<R: Print + Eprint + Input + Files>(rt: &R, name: &[u8]) -> io::Result<()> {
+    match name {
         b"-" => answer_file(rt, &mut rt.reader()),
-        name => answer_named(rt, name),
+        _ => answer_named(rt, name),
     }
 }
 
 fn main(rt: HostRuntime) -> io::Result<()> {
-    for k in 1..argument_count(&rt) {
-        answer_argument(&rt, k)?;
-    }
-    Ok(())
+    each_argument(&rt, &mut |name| answer_argument(&rt, name))
 }
