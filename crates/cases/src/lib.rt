@@ -99,8 +99,8 @@ fn write_unread<O: Write>(output: &mut O, name: &[u8]) -> io::Result<()>
 }
 
 // Writes the name and the first line of a file, as much of it as the room has, and the report on the rest. Name and line by `write_all`: they are bytes, perhaps no text.
-// Output, room and report are parameters here and below: a struct of them would hold two `&mut`s, and each function had to promise besides that it keeps these. And that the report
-// may be called of any bytes is asked with it, as each function asks it of a closure that it calls or hands on.
+// Output, room and report are parameters, here and below: a struct would hold two `&mut`s, and each function had to promise besides that both stay where they are. That the report
+// may be called is asked with it: a function can't know what a closure that it is handed needs.
 pub fn report_file<I: Read, O: Write, T: Display + Drop, F: Fn(&[u8]) -> T>(
     input: &mut I,
     output: &mut O,
@@ -137,7 +137,7 @@ fn report_argument<R: Files + Env, O: Write, T: Display + Drop, F: Fn(&[u8]) -> 
     }
 }
 
-// Reports on each file that an argument names.
+// Reports on each file that an argument names. By numbers, and not by `reading::each_argument`: after that nothing is known of what its closure wrote.
 pub fn report_arguments<R: Files + Env, O: Write, T: Display + Drop, F: Fn(&[u8]) -> T>(
     rt: &R,
     output: &mut O,
