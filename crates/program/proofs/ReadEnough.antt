@@ -16,7 +16,7 @@ use Rattle.program.specs.Output.{answer_room, read_room, read_of, written_for, p
 use Rattle.question.specs.RefusalNumbers.{refusal_number}
 use Rattle.question.specs.declared.refusal.Refusal.{Refusal}
 
-too_long : (s : List ℕ) → longest_sheet < length s → sheet_check s ≡ Err Refusal.SheetTooLong
+pub too_long : (s : List ℕ) → longest_sheet < length s → sheet_check s ≡ Err Refusal.SheetTooLong
 too_long s h = cond-false _ _ _ (lt-leb (length s) longest_sheet h)
 
 pub refused_output : (s : List ℕ) (why : Refusal) → sheet_check s ≡ Err why → program_output s ≡ 69 ∷ refusal_number why ∷ []

@@ -1,8 +1,10 @@
 // What the programs read: their arguments, and files or standard input, into rooms that they lend. Nothing here allocates.
 #![tactic(auto)]
 
-ghost use Rattle.std.specs.Prelude.{◌≡◌, ◌≤◌, length, take, IfOk, IfSome, IsUtf8};
+ghost use Rattle.std.specs.Prelude.{◌≡◌, ◌≤◌, List, ℕ, length, take, Err, OnOk, IfOk, IfErr, IfSome, IsUtf8};
+ghost use Rattle.std.specs.Fn.{CalledAt};
 ghost use Rattle.std.specs.Io.KnownBytes.{Consumes};
+ghost use Rattle.reading.specs.Calls.{CalledInTurn};
 
 use std::env::FillError;
 use std::io::Read;
@@ -14,19 +16,34 @@ pub const NAME_ROOM: usize = 4096;
 
 // How many arguments there are, the program's own name among them.
 pub fn argument_count<E: Env>(env: &E) -> usize {
-    for k in 0..usize::MAX {
-        if let Err(FillError::NotPresent) = env.arg(k, &mut []) {
-            return k;
-        }
-    }
-    usize::MAX
+    (0..usize::MAX)
+        .find(|k| matches!(env.arg(*k, &mut []), Err(FillError::NotPresent)))
+        .unwrap_or(usize::MAX)
 }
 
-// Puts an argument at the start of the room, and returns its length: 0 where there is none of that number, or it is longer than the room.
-pub fn argument<E: Env>(env: &E, k: usize, room: &mut [u8]) -> usize
-    ensures { (result ≤ length room.new) × (result ≡ length (take result room.new)) }
+// Puts an argument at the start of the room, and gives the part that it fills: nothing where there is none of that number, or it is longer than the room.
+pub fn argument<'a, E: Env>(env: &E, k: usize, room: &'a mut [u8]) -> &'a [u8]
+    ensures { length result.now ≤ length room.old }
 {
-    env.arg(k, room).unwrap_or(0)
+    let length = env.arg(k, room).unwrap_or(0);
+    &room[..length]
+}
+
+// Calls the closure with each argument behind the program's own name, in their order, until a call fails.
+pub fn each_argument<E: Env, F: FnMut(&[u8]) -> io::Result<()>>(
+    env: &E,
+    f: &mut F,
+) -> io::Result<()>
+    requires { F.IsAlwaysCallable f.old }
+    ensures ends { OnOk result ((names : List (List ℕ)) × CalledInTurn F.FnMut f.old names f.new) }
+    ensures stops { IfErr result (λ error. (names : List (List ℕ)) × (name : List ℕ) × (last : F)
+        × CalledInTurn F.FnMut f.old names last × CalledAt F.FnMut last name (Err error) f.new) }
+{
+    let mut room = [0u8; NAME_ROOM];
+    for k in 1..argument_count(env) {
+        f(argument(env, k, &mut room))?;
+    }
+    Ok(())
 }
 
 // Opens the file of that name for reading. A name that is no text is no file's here.
@@ -47,22 +64,22 @@ pub fn say_unread<E: Eprint>(to: &E, name: &[u8], error: io::Error) -> io::Resul
     }
 }
 
-// Reads until the room is full or the input ends, and returns how many bytes it put at the room's start: the input's first, as many as the room has.
-pub fn read_full<R: Read>(reader: &mut R, room: &mut [u8]) -> io::Result<usize>
-    ensures within { IfOk result (λ n. (n ≤ length room.new) × (n ≡ length (take n room.new))) }
-    ensures bytes { IfOk result (λ n. IfSome (R.remaining reader.old) (λ input. take n room.new ≡ take (length room.new) input)) }
-    ensures rest { IfOk result (λ n. Consumes (R.remaining reader.old) (R.remaining reader.new) (take n room.new)) }
+// Reads until the room is full or the input ends, and gives the part of the room that it filled: the input's first bytes, as many as the room has.
+pub fn read_full<'a, R: Read>(reader: &mut R, room: &'a mut [u8]) -> io::Result<&'a [u8]>
+    ensures within { IfOk result (λ read. length read.now ≤ length room.old) }
+    ensures bytes { IfOk result (λ read. IfSome (R.remaining reader.old) (λ input. read.now ≡ take (length room.old) input)) }
+    ensures rest { IfOk result (λ read. Consumes (R.remaining reader.old) (R.remaining reader.new) read.now) }
 {
     // The library's `read_exact` fails where the input ends before the room, and `read_to_end` allocates.
     let mut at = 0;
     while at < room.len() {
         let n = reader.read(&mut room[at..])?;
         if n == 0 {
-            return Ok(at);
+            break;
         }
         at += n;
     }
-    Ok(at)
+    Ok(&room[..at])
 }
 
 #[cfg(test)]
@@ -124,21 +141,35 @@ mod tests {
     fn arguments_are_counted(rt: HostRuntime) {
         let mut room = [0u8; 4];
         assert_eq!(rt; argument_count(&Given {}), 3);
-        assert_eq!(rt; argument(&Given {}, 0, &mut room), 4);
-        assert!(rt; room == *b"name");
+        assert!(rt; argument(&Given {}, 0, &mut room) == b"name".as_slice());
         for k in 1..4 {
-            assert_eq!(rt; argument(&Given {}, k, &mut room), 0, "argument {k}");
+            assert!(rt;
+                argument(&Given {}, k, &mut room).is_empty(),
+                "argument {k}"
+            );
         }
+    }
+
+    #[test]
+    fn each_argument_but_the_first(rt: HostRuntime) {
+        let mut total = 0usize;
+        let mut add = |name: &[u8]| {
+            total = total.saturating_add(name.len());
+            Ok(())
+        };
+        assert!(rt; each_argument(&Given {}, &mut add).is_ok());
+        assert_eq!(rt; total, 6);
+        let mut fail = |_name: &[u8]| Err(io::Error::from(io::ErrorKind::Other));
+        assert!(rt; each_argument(&Given {}, &mut fail).is_err());
     }
 
     #[test]
     fn input_is_cut_at_the_room(rt: HostRuntime) {
         let mut room = [0u8; 4];
         let mut long: &[u8] = b"longer";
-        assert!(rt; matches!(read_full(&mut long, &mut room), Ok(4)));
-        assert!(rt; room == *b"long");
+        assert!(rt; matches!(read_full(&mut long, &mut room), Ok(b"long")));
         let mut short: &[u8] = b"ab";
-        assert!(rt; matches!(read_full(&mut short, &mut room), Ok(2)));
+        assert!(rt; matches!(read_full(&mut short, &mut room), Ok(b"ab")));
         assert!(rt; room == *b"abng");
     }
 
@@ -146,8 +177,7 @@ mod tests {
     fn failed_read_is_no_end(rt: HostRuntime) {
         let mut room = [0u8; 4];
         let mut failing = Failing { left: 6 };
-        assert!(rt; matches!(read_full(&mut failing, &mut room), Ok(4)));
-        assert!(rt; room == [6, 5, 4, 3]);
+        assert!(rt; matches!(read_full(&mut failing, &mut room), Ok([6, 5, 4, 3])));
         assert!(rt; read_full(&mut failing, &mut room).is_err());
     }
 }

@@ -4,18 +4,15 @@
 
 use answering::State;
 use question::{Encounter, Refusal};
-use reading::{NAME_ROOM, argument, argument_count, open_named, read_full, say_unread};
-use record::{CheckedSheet, Record, next_at, record_at};
-use std::rt::{Env, Files};
+use reading::{each_argument, open_named, read_full, say_unread};
+use record::{CheckedSheet, MAX_SHEET, Record, next_at, record_at};
+use std::rt::Files;
 use std::{fmt, io};
 use verdict::Verdict;
 
 mod phrases;
 
 use phrases::Words;
-
-// One byte more than the longest sheet, so that a longer one is seen.
-const SHEET_ROOM: usize = 8193;
 
 // An accepted encounter, and the number of its record.
 #[derive(Clone, Copy)]
@@ -180,14 +177,15 @@ fn print_sheet(out: &impl Print, sheet: &[u8]) -> io::Result<()> {
 }
 
 fn answer_file<P: Print, R: io::Read>(out: &P, file: &mut R) -> io::Result<()> {
-    let mut sheet = [0u8; SHEET_ROOM];
-    let length = read_full(file, &mut sheet)?;
-    print_sheet(out, &sheet[..length])
+    // One byte more than the longest sheet, so that a longer one is seen. (`program::answer_read` reads so too, but gives the answer's bytes, and the words are of the sheet's.)
+    let mut room = [0u8; MAX_SHEET + 1];
+    print_sheet(out, read_full(file, &mut room)?)
 }
 
 fn answer_named<R: Print + Eprint + Files>(rt: &R, name: &[u8]) -> io::Result<()> {
     match open_named(rt, name) {
         Ok(mut file) => {
+            // By `write_all`, as a file's name is bytes, perhaps no text.
             rt.write_all(name)?;
             rt.print("\n")?;
             answer_file(rt, &mut file)
@@ -196,18 +194,13 @@ fn answer_named<R: Print + Eprint + Files>(rt: &R, name: &[u8]) -> io::Result<()
     }
 }
 
-fn answer_argument<R: Print + Eprint + Input + Files + Env>(rt: &R, k: usize) -> io::Result<()> {
-    let mut room = [0u8; NAME_ROOM];
-    let length = argument(rt, k, &mut room);
-    match &room[..length] {
+fn answer_argument<R: Print + Eprint + Input + Files>(rt: &R, name: &[u8]) -> io::Result<()> {
+    match name {
         b"-" => answer_file(rt, &mut rt.reader()),
-        name => answer_named(rt, name),
+        _ => answer_named(rt, name),
     }
 }
 
 fn main(rt: HostRuntime) -> io::Result<()> {
-    for k in 1..argument_count(&rt) {
-        answer_argument(&rt, k)?;
-    }
-    Ok(())
+    each_argument(&rt, &mut |name| answer_argument(&rt, name))
 }
