@@ -11,7 +11,7 @@ ghost use Rattle.cases.specs.Numbers.{encounter_in, settings_in, question_in};
 ghost use Rattle.cases.specs.Reports.{report_text, unread_text, WritesReport, WritesArgument};
 
 use question::{Encounter, Question, Settings};
-use reading::{NAME_ROOM, argument, argument_count, open_named, read_full};
+use reading::{NAME_ROOM, argument, argument_count, open_named, read_part};
 use std::fmt::Display;
 use std::io;
 use std::io::{Read, Write};
@@ -114,7 +114,7 @@ pub fn report_file<I: Read, O: Write, T: Display + Drop, F: Fn(&[u8]) -> T>(
 {
     output.write_all(name)?;
     output.write_all(b": ")?;
-    let (line, cases) = split_first_line(read_full(input, room)?);
+    let (line, cases) = split_first_line(read_part(input, room)?);
     output.write_all(line)?;
     writeln!(output, "{}", report(cases))
 }

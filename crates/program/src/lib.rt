@@ -4,7 +4,7 @@
 ghost use Rattle.std.specs.Prelude.{◌≡◌, ◌≤◌, length, take, replicate, IfOk, IfSome};
 ghost use Rattle.program.specs.Output.{answer_room, read_room, program_output, area_with};
 
-use reading::read_full;
+use reading::read_part;
 use record::MAX_SHEET;
 use sheet::answer_sheet;
 use std::io;
@@ -62,6 +62,6 @@ pub fn answer_read<R: Read>(input: &mut R) -> io::Result<Output>
     ensures { IfOk result (λ output. IfSome (R.remaining input.old) (λ sheet. (output.length ≡ length (program_output sheet)) × (output.area ≡ area_with (program_output sheet)))) }
 {
     let mut room = read_room();
-    let sheet = read_full(input, &mut room)?;
+    let sheet = read_part(input, &mut room)?;
     Ok(program_output(sheet))
 }

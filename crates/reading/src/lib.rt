@@ -64,22 +64,31 @@ pub fn say_unread<E: Eprint>(to: &E, name: &[u8], error: io::Error) -> io::Resul
     }
 }
 
-// Reads until the room is full or the input ends, and gives the part of the room that it filled: the input's first bytes, as many as the room has.
-pub fn read_full<'a, R: Read>(reader: &mut R, room: &'a mut [u8]) -> io::Result<&'a [u8]>
-    ensures within { IfOk result (λ read. length read.now ≤ length room.old) }
-    ensures bytes { IfOk result (λ read. IfSome (R.remaining reader.old) (λ input. read.now ≡ take (length room.old) input)) }
-    ensures rest { IfOk result (λ read. Consumes (R.remaining reader.old) (R.remaining reader.new) read.now) }
+// Reads until the room is full or the input ends, and returns how many bytes it put at the room's start: the input's first, as many as the room has.
+pub fn read_full<R: Read>(reader: &mut R, room: &mut [u8]) -> io::Result<usize>
+    ensures within { IfOk result (λ n. (n ≤ length room.new) × (n ≡ length (take n room.new))) }
+    ensures bytes { IfOk result (λ n. IfSome (R.remaining reader.old) (λ input. take n room.new ≡ take (length room.new) input)) }
+    ensures rest { IfOk result (λ n. Consumes (R.remaining reader.old) (R.remaining reader.new) (take n room.new)) }
 {
     // The library's `read_exact` fails where the input ends before the room, and `read_to_end` allocates.
     let mut at = 0;
     while at < room.len() {
         let n = reader.read(&mut room[at..])?;
         if n == 0 {
-            break;
+            return Ok(at);
         }
         at += n;
     }
-    Ok(&room[..at])
+    Ok(at)
+}
+
+// The part of the room that was filled so.
+pub fn read_part<'a, R: Read>(reader: &mut R, room: &'a mut [u8]) -> io::Result<&'a [u8]>
+    ensures bytes { IfOk result (λ read. IfSome (R.remaining reader.old) (λ input. read.now ≡ take (length room.old) input)) }
+    ensures rest { IfOk result (λ read. Consumes (R.remaining reader.old) (R.remaining reader.new) read.now) }
+{
+    let n = read_full(reader, room)?;
+    Ok(&room[..n])
 }
 
 #[cfg(test)]
@@ -167,17 +176,21 @@ mod tests {
     fn input_is_cut_at_the_room(rt: HostRuntime) {
         let mut room = [0u8; 4];
         let mut long: &[u8] = b"longer";
-        assert!(rt; matches!(read_full(&mut long, &mut room), Ok(b"long")));
+        assert!(rt; matches!(read_full(&mut long, &mut room), Ok(4)));
+        assert!(rt; room == *b"long");
         let mut short: &[u8] = b"ab";
-        assert!(rt; matches!(read_full(&mut short, &mut room), Ok(b"ab")));
+        assert!(rt; matches!(read_full(&mut short, &mut room), Ok(2)));
         assert!(rt; room == *b"abng");
+        let mut part: &[u8] = b"cd";
+        assert!(rt; matches!(read_part(&mut part, &mut room), Ok(b"cd")));
     }
 
     #[test]
     fn failed_read_is_no_end(rt: HostRuntime) {
         let mut room = [0u8; 4];
         let mut failing = Failing { left: 6 };
-        assert!(rt; matches!(read_full(&mut failing, &mut room), Ok([6, 5, 4, 3])));
+        assert!(rt; matches!(read_full(&mut failing, &mut room), Ok(4)));
+        assert!(rt; room == [6, 5, 4, 3]);
         assert!(rt; read_full(&mut failing, &mut room).is_err());
     }
 }

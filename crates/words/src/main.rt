@@ -4,7 +4,7 @@
 
 use answering::State;
 use question::{Encounter, Refusal};
-use reading::{each_argument, open_named, read_full, say_unread};
+use reading::{each_argument, open_named, read_part, say_unread};
 use record::{CheckedSheet, MAX_SHEET, Record, next_at, record_at};
 use std::rt::Files;
 use std::{fmt, io};
@@ -179,7 +179,7 @@ fn print_sheet(out: &impl Print, sheet: &[u8]) -> io::Result<()> {
 fn answer_file<P: Print, R: io::Read>(out: &P, file: &mut R) -> io::Result<()> {
     // One byte more than the longest sheet, so that a longer one is seen. (`program::answer_read` reads so too, but gives the answer's bytes, and the words are of the sheet's.)
     let mut room = [0u8; MAX_SHEET + 1];
-    print_sheet(out, read_full(file, &mut room)?)
+    print_sheet(out, read_part(file, &mut room)?)
 }
 
 fn answer_named<R: Print + Eprint + Files>(rt: &R, name: &[u8]) -> io::Result<()> {
