@@ -153,6 +153,7 @@ pub fn positive_difference(q: i64, u: i64) -> u64
 
 impl AdviceRule {
     // G, the speed that is missing; none where the speed exceeds the target, as the path then takes the target at once.
+    #[inline(always)]
     fn missing_speed(self) -> u64
         requires { RuleSizes self }
         ensures { result ≡ missing self }
@@ -161,6 +162,7 @@ impl AdviceRule {
     }
 
     // While the speed still changes: a·n is below G·m then, which keeps a·n² small. (The instants of both sides are in the upper one's reach.)
+    #[inline(always)]
     fn arc_not_beyond(self, since: Instant) -> bool
         requires rule_sizes { RuleSizes self }
         requires in_reach { InReach Upper since.n since.m }
@@ -178,6 +180,7 @@ impl AdviceRule {
     }
 
     // Once the speed is the target.
+    #[inline(always)]
     fn straight_not_beyond(self, gap: u64, since: Instant) -> bool
         requires rule_sizes { RuleSizes self }
         requires in_reach { InReach Upper since.n since.m }
@@ -195,6 +198,7 @@ impl AdviceRule {
     }
 
     // A time after it begins.
+    #[inline(always)]
     fn not_beyond(self, since: Instant) -> bool
         requires rule_sizes { RuleSizes self }
         requires missing_within { missing self ≤ most_missing self.side }

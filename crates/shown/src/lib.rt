@@ -149,6 +149,7 @@ struct OpenQuestion {
 
 impl OpenQuestion {
     #[tactic(auto, unfolding(crate::specs::inner::Steps::lowest_point))]
+    #[inline(always)]
     fn lowest_point(self) -> LowestPoint
         ensures { result ≡ lowest_point self.question.sensed }
     {
@@ -161,6 +162,7 @@ impl OpenQuestion {
     }
 
     // After d has been tried. Where the path has no conflict at its lowest, no later time has one.
+    #[inline(always)]
     fn from_lowest(self) -> Option<Instant>
         requires { InstantsTried Lower self.question.sensed }
         ensures { result ≡ shown_from Lower self.question.sensed (option_to_list (turning_of self.question.sensed) ++ option_to_list (window_end self.question.sensed)) }
@@ -178,6 +180,7 @@ impl OpenQuestion {
 
     // Is d in conflict? A window that starts no earlier has nothing to show there.
     #[tactic(auto, using(crate::proofs::OpenWindow::late_start), unfolding(path::specs::inner::Tests::in_conflict))]
+    #[inline(always)]
     fn conflict_at_delay(self) -> bool
         requires { StartTried Lower self.question.sensed }
         ensures { result ≡ in_conflict Lower self.question.sensed (d self.question.sensed) 1 }
@@ -193,6 +196,7 @@ impl OpenQuestion {
         start.n < d * start.m && in_window(question, end) && not_beyond(lower, end)
     }
 
+    #[inline(always)]
     fn from_delay(self) -> Option<Instant>
         requires { StartTried Lower self.question.sensed }
         ensures { result ≡ shown_from Lower self.question.sensed (path_instants Lower self.question.sensed ++ option_to_list (window_end self.question.sensed)) }
@@ -208,7 +212,7 @@ impl OpenQuestion {
 }
 
 // The time shown on a side of a window that opens at a start. Between the start and the end only the lower path has instants; an upper path that does not
-// approach falls throughout.
+// approach falls throughout. (The start is an argument beside the question, as `window::opening` gives it: a caller needs no type of this crate.)
 #[inline(always)]
 pub fn time_shown(asked: SideQuestion, start: Instant) -> Option<Instant>
     requires { opening asked.question.sensed ≡ Some start }

@@ -51,14 +51,15 @@ fn two_sided_verdict(lower: Option<Instant>, upper: Option<Instant>) -> Verdict
     }
 }
 
-// From the times shown on the two sides; a one-sided question has only the lower one.
-fn verdict_of(question: Question, lower: Option<Instant>, upper: Option<Instant>) -> Verdict
-    ensures { result ≡ verdict_of question lower upper }
+// The verdict where the window is empty. (One function of the two times, for an empty window and an open one, takes some 50 instructions more a verdict, which may
+// take 380: docs/PERFORMANCE.md.)
+fn empty_verdict(question: Question) -> Verdict
+    ensures { result ≡ verdict_of question None None }
 {
     if two_sided(question) {
-        return two_sided_verdict(lower, upper);
+        return Verdict::Clear(ClearSides::Both);
     }
-    one_sided_verdict(lower)
+    Verdict::Clear(ClearSides::Lower)
 }
 
 // The verdict where the window opens at a start.
@@ -74,18 +75,17 @@ fn open_verdict(question: Question, s: SizedQuestion, start: Instant) -> Verdict
         },
         start,
     );
-    let upper = if two_sided(question) {
-        time_shown(
+    if two_sided(question) {
+        let upper = time_shown(
             SideQuestion {
                 side: Side::Upper,
                 question: s,
             },
             start,
-        )
-    } else {
-        None
-    };
-    verdict_of(question, lower, upper)
+        );
+        return two_sided_verdict(lower, upper);
+    }
+    one_sided_verdict(lower)
 }
 
 // The verdict on an accepted question.
@@ -94,7 +94,7 @@ pub fn verdict_on(asked: AcceptedQuestion) -> Verdict
 {
     let s = sensed_question(asked);
     match opening(s) {
-        None => verdict_of(asked.question, None, None),
+        None => empty_verdict(asked.question),
         Some(start) => open_verdict(asked.question, s, start),
     }
 }

@@ -41,6 +41,6 @@ pub returns-in-None : goal.returns-in-None
 returns-in-None c =
     let z = c.args.asked.question in
     let s = c.sensed_question-s in
-    c.verdict_of.ensures
+    c.empty_verdict.ensures
     ∙ empty-is z s.result.sensed (accepted_has c.args.asked.encounter c.args.asked.settings z _ c.args.asked.accepted s.ensures) (sym c.opening.ensures ∙ c.in-None.is)
     ∙ ap (verdict z) s.ensures
