@@ -1,6 +1,6 @@
 -- A flight read from numbers: how many stretches, each stretch from its two numbers, also in the sense; and the sizes, stretch by stretch. Assumes nothing.
-use mathlib.Core.Path.{◌≡◌, refl, ap, ◌∙◌, subst}
-use mathlib.Core.Bool.{true, false, true≢false}
+use mathlib.Core.Path.{◌≡◌, refl, ap, ◌∙◌}
+use mathlib.Core.Bool.{false, true≢false}
 use mathlib.Core.List.{List, [], ◌∷◌}
 use Prim.Native.Nat.{ℕ, zero, suc, ◌*◌, ◌<◌}
 use native.Mathlib.Omega.{arith}
@@ -8,10 +8,8 @@ use lib.Dec.{T}
 use lib.IntN.{ℤ, pos}
 use lib.ListN.{length, get_or}
 use Rattle.integers.specs.Extremes.{max0}
-use Rattle.advisory.specs.declared.Sense.{Sense}
 use Rattle.flight.specs.declared.Stretch.{Stretch}
 use Rattle.flight.specs.HandedIn.{flight_of, paired}
-use Rattle.flight.specs.SensedFlight.{sensed_flight}
 
 -- two numbers to a stretch, and one more where they are not pairs
 pub count_handed : (l : List ℤ) → T (paired l) → length l ≡ 2 * length (flight_of l)
@@ -35,6 +33,3 @@ stretch_handed (g ∷ x ∷ l) zero z h = refl
 stretch_handed (g ∷ x ∷ l) (suc i) z h =
     stretch_handed l i z (omega arith)
     ∙ ap (λ (j : ℕ). record { acceleration = get_or (g ∷ x ∷ l) j (pos 0); seconds = max0 (get_or (g ∷ x ∷ l) (suc j) (pos 0)) }) {x = suc (suc (2 * i))} {y = 2 * suc i} (omega arith)
-
--- ---- in the sense
-module _ (w : Sense) where
