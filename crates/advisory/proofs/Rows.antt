@@ -1,4 +1,4 @@
--- A search by code from the table's end on finds no row. Assumes nothing.
+-- A search by code from the table's end on finds no row. (`reaction_to` needs it no more; docs/PORT.md names it.) Assumes nothing.
 use Rattle.std.specs.Prelude.{None}
 use mathlib.Core.Path.{◌≡◌, refl}
 use mathlib.Core.List.{List, [], ◌∷◌}

@@ -10,6 +10,7 @@ use lib.Seq.{sets, sets-eq}
 pub two_stores : (d : List ℕ) (w a b : ℕ) → set (set d w a) (w + 1) b ≡ sets d w (a ∷ b ∷ [])
 two_stores d w a b = ap (λ (n : ℕ). set (set d w a) n b) (add-one w)
 
+-- (These two are docs/PORT.md's: no proof cites them.)
 pub four_stores : (d : List ℕ) (w a b c e : ℕ) → set (set (set (set d w a) (w + 1) b) (w + 2) c) (w + 3) e ≡ sets d w (a ∷ b ∷ c ∷ e ∷ [])
 four_stores d w a b c e =
     ap (λ (n : ℕ). set (set (set (set d w a) n b) (w + 2) c) (w + 3) e) (add-one w)

@@ -149,6 +149,7 @@ pub float_zero : float (pos 0) ≡ fin false 0 (pos 0)
 unfolding of_int
 float_zero = refl
 
+-- (docs/PORT.md names it: no proof cites it.)
 pub cast_exact : (z : ℤ) → nat_abs z ≤ 2 ^ 53 → T (in_float binary64 z)
 unfolding in_float
 cast_exact (pos n) h = le→leb n (2 ^ 53) h
