@@ -3,3 +3,4 @@ pub mod CodeRanges
 pub mod SameInstruction
 pub mod TablesAgree
 pub mod Limits
+pub mod Rows

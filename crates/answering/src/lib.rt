@@ -92,7 +92,7 @@ impl State {
         Ok(State { settings, ..self })
     }
 
-    // The state with a delay acceleration, or refusal 3.
+    // The state with a delay acceleration, or refusal 3. (Beside `with_puck`, as each setting's test and refusal stand together: one function for both would be handed the two apart.)
     fn with_delay_acceleration(self, settings: Settings) -> Result<State, Refusal>
         ensures { result ≡ cond (delay_acceleration_within settings) (Ok (with_settings self settings)) (Err DelayAccelerationOutside) }
     {

@@ -11,7 +11,7 @@ ghost use Rattle.cases.specs.Numbers.{encounter_in, settings_in, question_in};
 ghost use Rattle.cases.specs.Reports.{report_text, unread_text, WritesReport, WritesArgument};
 
 use question::{Encounter, Question, Settings};
-use reading::{NAME_ROOM, argument, argument_count, open_named, read_part};
+use reading::{NAME_ROOM, argument_count, argument_part, open_named, read_part};
 use std::fmt::Display;
 use std::io;
 use std::io::{Read, Write};
@@ -130,14 +130,15 @@ fn report_argument<R: Files + Env, O: Write, T: Display + Drop, F: Fn(&[u8]) -> 
     ensures { OnOk result ((name : List ℕ) × WritesArgument T.output (FnReturnsAt F.Fn report.now) (O.contents output.old) name (O.contents output.new)) }
 {
     let mut name = [0u8; NAME_ROOM];
-    let name = argument(rt, k, &mut name);
+    let name = argument_part(rt, k, &mut name);
     match open_named(rt, name) {
         Ok(mut file) => report_file(&mut file, output, name, room, report),
         Err(_) => write_unread(output, name),
     }
 }
 
-// Reports on each file that an argument names. By numbers, and not by `reading::each_argument`: after that nothing is known of what its closure wrote.
+// Reports on each file that an argument names. By numbers, and not by `reading::each_argument`: with that the contract finds no proof, as what the closure
+// wrote is no longer tied to the output once the calls are over.
 pub fn report_arguments<R: Files + Env, O: Write, T: Display + Drop, F: Fn(&[u8]) -> T>(
     rt: &R,
     output: &mut O,

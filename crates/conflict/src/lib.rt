@@ -152,7 +152,7 @@ pub fn positive_difference(q: i64, u: i64) -> u64
 }
 
 impl AdviceRule {
-    // G, the speed that is missing; none where the speed exceeds the target, as the path then takes the target at once.
+    // G, the speed that is missing; none where the speed exceeds the target, as the path then takes the target at once. (`pieces` says why it has its own.)
     #[inline(always)]
     fn missing_speed(self) -> u64
         requires { RuleSizes self }

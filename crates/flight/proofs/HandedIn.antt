@@ -41,6 +41,3 @@ stretch_handed (g ∷ x ∷ l) (suc i) z h =
 
 -- ---- in the sense
 module _ (w : Sense) where
-  pub sensed_count : (l : List Stretch) → length (sensed_flight w l) ≡ length l
-  sensed_count [] = refl
-  sensed_count (x ∷ l) = omega (arith, sensed_count l)

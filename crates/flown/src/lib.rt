@@ -27,7 +27,8 @@ pub struct Flight<'a> {
     pub ghost within: { numbers_within numbers.now ≡ true },
 }
 
-// A whole second of a flight, what is left of the stretch that owns it, and the stretches after that. At the flight's end nothing is left.
+// A whole second of a flight, what is left of the stretch that owns it, and the stretches after that. At the flight's end nothing is left. (That it is a place of the flight is a clause of what gives it:
+// to keep that, each place would carry the flight.)
 #[derive(Clone, Copy)]
 struct Place<'a> {
     second: Second,

@@ -99,9 +99,6 @@ module _ (x y : ℤ) where
   pub minℤ_left : minℤ x y ≤ℤ x
   minℤ_left = cond_by (le_z x y) x y (λ z. z ≤ℤ x) (λ t. ≤ℤ_refl x) not_le
 
-  pub minℤ_right : minℤ x y ≤ℤ y
-  minℤ_right = cond_by (le_z x y) x y (λ z. z ≤ℤ y) (λ t. le_z_yes t) (λ t. ≤ℤ_refl y)
-
 -- what the larger of two is above one of them
 pub maxℤ_above : (x y : ℤ) (n : ℕ) → (x -ℤ y) ≤ℤ pos n → max0 (maxℤ x y -ℤ y) ≤ n
 maxℤ_above x y n h = max0_le (maxℤ x y -ℤ y) n (cond_by (le_z x y) y x (λ z. (z -ℤ y) ≤ℤ pos n) (λ t. by≤ (n ∷ []) (y ∷ []) (0≤pos n) (λ v. search quote depth 20) tt) (λ t. h))

@@ -15,7 +15,8 @@ pub fn sides_number(sides: ClearSides) -> u8
     sides as u8
 }
 
-// The entry for plain numbers: any 64-bit values. The three are apart, as on a sheet an encounter and the settings outlast the question that is asked of them.
+// The entry for plain numbers: any 64-bit values. The three are apart, as on a sheet each is set by records of its own, and an encounter and the
+// settings outlast the question that is asked of them.
 #[tactic(auto, unfolding(crate::specs::Answers::answer))]
 pub fn judge(
     encounter: Encounter,

@@ -1,4 +1,4 @@
-// What the program does between reading and writing: the rooms for a sheet and for its answer, and the bytes to write. `specs/` says what these are.
+// What the program reads and what it is to write: the rooms for a sheet and for its answer, and the answer's bytes. `specs/` says what these are.
 #![tactic(auto)]
 
 ghost use Rattle.std.specs.Prelude.{◌≡◌, ◌≤◌, length, take, replicate, IfOk, IfSome};

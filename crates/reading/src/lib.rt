@@ -21,11 +21,18 @@ pub fn argument_count<E: Env>(env: &E) -> usize {
         .unwrap_or(usize::MAX)
 }
 
-// Puts an argument at the start of the room, and gives the part that it fills: nothing where there is none of that number, or it is longer than the room.
-pub fn argument<'a, E: Env>(env: &E, k: usize, room: &'a mut [u8]) -> &'a [u8]
+// Puts an argument at the start of the room, and returns its length: 0 where there is none of that number, or it is longer than the room. (0 is enough, as no file has an empty name.)
+pub fn argument<E: Env>(env: &E, k: usize, room: &mut [u8]) -> usize
+    ensures { (result ≤ length room.new) × (result ≡ length (take result room.new)) }
+{
+    env.arg(k, room).unwrap_or(0)
+}
+
+// The part of the room that an argument fills.
+pub fn argument_part<'a, E: Env>(env: &E, k: usize, room: &'a mut [u8]) -> &'a [u8]
     ensures { length result.now ≤ length room.old }
 {
-    let length = env.arg(k, room).unwrap_or(0);
+    let length = argument(env, k, room);
     &room[..length]
 }
 
@@ -41,7 +48,7 @@ pub fn each_argument<E: Env, F: FnMut(&[u8]) -> io::Result<()>>(
 {
     let mut room = [0u8; NAME_ROOM];
     for k in 1..argument_count(env) {
-        f(argument(env, k, &mut room))?;
+        f(argument_part(env, k, &mut room))?;
     }
     Ok(())
 }
@@ -150,13 +157,12 @@ mod tests {
     fn arguments_are_counted(rt: HostRuntime) {
         let mut room = [0u8; 4];
         assert_eq!(rt; argument_count(&Given {}), 3);
-        assert!(rt; argument(&Given {}, 0, &mut room) == b"name".as_slice());
+        assert_eq!(rt; argument(&Given {}, 0, &mut room), 4);
+        assert!(rt; room == *b"name");
         for k in 1..4 {
-            assert!(rt;
-                argument(&Given {}, k, &mut room).is_empty(),
-                "argument {k}"
-            );
+            assert_eq!(rt; argument(&Given {}, k, &mut room), 0, "argument {k}");
         }
+        assert!(rt; argument_part(&Given {}, 0, &mut room) == b"name".as_slice());
     }
 
     #[test]

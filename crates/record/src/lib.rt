@@ -3,7 +3,7 @@
 
 ghost use Rattle.std.specs.Prelude.{◌≡◌, ◌+◌, ◌≤◌, ◌<◌, length, take, drop, pos};
 ghost use Rattle.std.specs.Option.{option_map};
-ghost use Rattle.record.specs.Numbers.{byte_at, short_at, number_at};
+ghost use Rattle.record.specs.Numbers.{byte_at, short_at, word_at, number_at};
 ghost use Rattle.record.specs.Kinds.{kind_of, known_kind, body_length, body_after};
 ghost use Rattle.record.specs.Records.{encounter_in, question_in, record_of};
 ghost use Rattle.record.specs.SheetCheck.{fault_after, sheet_check};
@@ -59,7 +59,7 @@ impl Kind {
 }
 
 // A record with its numbers: r, h, c, v, vi; p, k; e; code, limit; a free question. A code is any byte and a limit any number that the sheet has: whoever answers
-// the question refuses them, as 8, 9 or 6, and what the record held can still be told.
+// the question refuses them, as 8, 9, 17 or 6, and what the record held can still be told.
 #[derive(Clone, Copy)]
 pub enum Record {
     Encounter(Encounter),
@@ -81,7 +81,15 @@ fn bytes_at<const N: usize>(bytes: &[u8], at: usize) -> [u8; N]
     *bytes[at..].first_chunk().unwrap()
 }
 
-// The four bytes at a position, in two's complement.
+// The four bytes at a position, unsigned.
+pub fn word_at(bytes: &[u8], at: usize) -> u64
+    requires { at + 4 ≤ length bytes.now }
+    ensures { (result ≡ word_at bytes.now at) × (result < 4294967296) }
+{
+    u64::from(u32::from_be_bytes(bytes_at(bytes, at)))
+}
+
+// The same in two's complement.
 #[tactic(auto, unfolding(crate::specs::Numbers::number_at))]
 fn number_at(bytes: &[u8], at: usize) -> i64
     requires { at + 4 ≤ length bytes.now }

@@ -15,6 +15,7 @@ fn print_bytes(out: &impl Print, bytes: &[u8]) -> io::Result<()> {
     Ok(())
 }
 
+// (As `words` does, but for what is written. One function of both would hand the open file to a closure, whose parameter is a type of each host's own.)
 fn answer_named<R: Print + Eprint + Files>(rt: &R, name: &[u8]) -> io::Result<()> {
     match open_named(rt, name) {
         Ok(mut file) => {

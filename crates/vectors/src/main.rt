@@ -108,7 +108,8 @@ impl Display for Report {
 }
 
 // Judges all whole cases. Zeros are written out, as a struct with a ghost field has no derived Default.
-// (`drawings` has this loop too. For one function of both, each report would need a trait, with its number of cases as a ghost member: no count may overflow.)
+// (`drawings` has this loop too, of three lines. One function of both would want a trait of their reports, with the number of cases as a ghost member, as no count may overflow, and an
+// impl in each: more than the two loops.)
 fn report_on(bytes: &[u8]) -> Report {
     let (cases, left_over) = whole_cases::<CASE>(bytes);
     let mut report = Report {
