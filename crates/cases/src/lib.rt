@@ -98,9 +98,9 @@ fn write_unread<O: Write>(output: &mut O, name: &[u8]) -> io::Result<()>
     writeln!(output, ": cannot be read")
 }
 
-// Writes the name and the first line of a file, as much of it as the room has, and the report on the rest. Name and line by `write_all`: they are bytes, perhaps no text.
-// Output, room and report are parameters, here and below: a struct would hold two `&mut`s, and each function had to promise besides that both stay where they are. That the report
-// may be called is asked with it: a function can't know what a closure that it is handed needs.
+// Writes the name and the first line of a file, as much of it as the room has, and the report on the rest. Name and line by `write_all`: they are bytes,
+// perhaps no text. Output, room and report are parameters, here and below: a struct would hold two `&mut`s, and each function had to promise besides that both stay where
+// they are. That the report may be called is asked with it: a function can't know what a closure that it is handed needs.
 pub fn report_file<I: Read, O: Write, T: Display + Drop, F: Fn(&[u8]) -> T>(
     input: &mut I,
     output: &mut O,

@@ -2,7 +2,7 @@
 -- code 10 with v < 0 and code 9 with v > 0 exactly, and every other question by code is what it was. Assumes nothing.
 use Rattle.std.specs.Prelude.{Err, Ok, Result}
 use mathlib.Core.Path.{◌≡◌, refl, subst, ap, ap₂, ◌∙◌}
-use mathlib.Core.Bool.{Bool, true, false, cond, not, ◌&&◌, ◌||◌}
+use mathlib.Core.Bool.{Bool, true, false, cond, not, ◌&&◌, ◌||◌, and-false}
 use mathlib.Core.Logic.{◌⊎◌, inl, inr, ⊎_elim, ◌↔◌}
 use Prim.Native.Nat.{ℕ}
 use native.Mathlib.Omega.{arith}
@@ -53,11 +53,7 @@ either false b false d e = absurd (true≢false e)
 
 fails : (a b c d : Bool) → ((a ≡ true) × (b ≡ false)) ⊎ ((c ≡ true) × (d ≡ false)) → (not a || b) && (not c || d) ≡ false
 fails a b c d (inl h) = ap₂ (λ (a b : Bool). (not a || b) && (not c || d)) h.0 h.1
-fails a b c d (inr h) = ap₂ (λ (c d : Bool). (not a || b) && (not c || d)) h.0 h.1 ∙ last (not a || b)
-  where
-    last : (t : Bool) → t && false ≡ false
-    last true = refl
-    last false = refl
+fails a b c d (inr h) = ap₂ (λ (c d : Bool). (not a || b) && (not c || d)) h.0 h.1 ∙ and-false (not a || b)
 
 below : {a b : ℤ} → le_z a b ≡ false → b <ℤ a
 below {a} {b} e = ⊎_elim (λ h. h) (λ (h : a ≤ℤ b). absurd (subst T e h.le)) (split< b a)

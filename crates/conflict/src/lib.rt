@@ -197,7 +197,7 @@ impl AdviceRule {
         height_not_beyond(self.side, straight, edge)
     }
 
-    // A time after it begins.
+    // Is the path not beyond the edge, a time after the rule begins?
     #[inline(always)]
     fn not_beyond(self, since: Instant) -> bool
         requires rule_sizes { RuleSizes self }

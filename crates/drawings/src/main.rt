@@ -18,8 +18,8 @@ const CASE: usize = 55;
 // 256 cases, and a first line of 600 bytes.
 const ROOM: usize = 113240;
 
-// What is held against a case is what C and Rust get: `binding`'s structs, with their numbers for kinds and refusals. A piece, a drawing and a point are those structs here, with each
-// float by its bit pattern, none where it is no number: by `==` of floats 0 and −0 would be one.
+// What is held against a case is what C and Rust get: `binding`'s structs, with their numbers for kinds and refusals. A piece, a drawing and a point are those structs
+// here, with each float by its bit pattern, none where it is no number: by `==` of floats 0 and −0 would be one.
 #[derive(Clone, Copy, PartialEq, Eq)]
 struct Piece {
     kind: u64,

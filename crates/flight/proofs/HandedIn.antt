@@ -1,6 +1,6 @@
 -- A flight read from numbers: how many stretches, each stretch from its two numbers, also in the sense; and the sizes, stretch by stretch. Assumes nothing.
 use mathlib.Core.Path.{◌≡◌, refl, ap, ◌∙◌, subst}
-use mathlib.Core.Bool.{true, false}
+use mathlib.Core.Bool.{true, false, true≢false}
 use mathlib.Core.List.{List, [], ◌∷◌}
 use Prim.Native.Nat.{ℕ, zero, suc, ◌*◌, ◌<◌}
 use native.Mathlib.Omega.{arith}
@@ -20,10 +20,7 @@ count_handed (g ∷ []) t = absurd t
 count_handed (g ∷ x ∷ l) t = omega (arith, count_handed l t)
 
 pub count_odd : (l : List ℤ) → paired l ≡ false → length l ≡ suc (2 * length (flight_of l))
-count_odd [] e = absurd (true_false e)
-  where
-    true_false : true ≡ false → ⊥
-    true_false e = subst T e tt
+count_odd [] e = absurd (true≢false e)
 count_odd (g ∷ []) e = omega arith
 count_odd (g ∷ x ∷ l) e = omega (arith, count_odd l e)
 

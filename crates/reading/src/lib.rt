@@ -89,7 +89,7 @@ pub fn read_full<R: Read>(reader: &mut R, room: &mut [u8]) -> io::Result<usize>
     Ok(at)
 }
 
-// The part of the room that was filled so.
+// Reads so, and gives the part of the room that it filled.
 pub fn read_part<'a, R: Read>(reader: &mut R, room: &'a mut [u8]) -> io::Result<&'a [u8]>
     ensures bytes { IfOk result (λ read. IfSome (R.remaining reader.old) (λ input. read.now ≡ take (length room.old) input)) }
     ensures rest { IfOk result (λ read. Consumes (R.remaining reader.old) (R.remaining reader.new) read.now) }

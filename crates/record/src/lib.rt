@@ -98,7 +98,7 @@ fn number_at(bytes: &[u8], at: usize) -> i64
     i64::from(i32::from_be_bytes(bytes_at(bytes, at)))
 }
 
-// The two bytes at a position, unsigned.
+// The two bytes at a position, unsigned. (`from_be_bytes` is of each type and of no trait, so there is a function for each.)
 fn short_at(bytes: &[u8], at: usize) -> i64
     requires { at + 2 ≤ length bytes.now }
     ensures { result ≡ pos (short_at bytes.now at) }

@@ -1,6 +1,6 @@
 // Refusals 1 to 6 and 14 to 16: what a question must meet besides the fields' limits, and the tests in their order. The conditions are `question`'s specs/Refusals.antt.
 //
-// The tests in order are inlined: a verdict takes 374 instructions then, with `sensed`'s question, and 463 where both are called (`compare/bench`).
+// The tests in order are inlined: called, they and `sensed`'s question cost some 90 instructions a verdict (`compare/bench`).
 #![tactic(auto)]
 
 ghost use Rattle.std.specs.Prelude.{◌≡◌, IfOk, IfErr, Err, ◌&&◌};

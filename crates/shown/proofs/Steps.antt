@@ -27,6 +27,7 @@ use Rattle.path.proofs.Decisions.{window_decided, not_beyond_decided}
 use Rattle.path.proofs.WindowEnds.{between_window, endless_start_zero, endless_start}
 use Rattle.path.proofs.SideProfiles.{Approaches, reaches_end}
 use Rattle.path.proofs.WholeSeconds.{none_before}
+use Rattle.shown.proofs.SameTests.{second_same}
 use Rattle.shown.specs.TimeShown.{first_of, first_second, or_else, approaches, searches, seconds_tried, searched, shown_from}
 use Rattle.shown.specs.inner.Steps.{StartTried, InstantsTried, Searchable, first_reached}
 
@@ -107,10 +108,6 @@ module _ (side : Side) (s : SensedQuestion) where
 
     at_second : in_window s 0 1 ≡ true → (j : ℕ) → not_beyond side s j 1 ≡ in_conflict side s j 1
     at_second w j = inside j 1 (all_in w j)
-
-    second_same : (test other : ℕ → Bool) → ((j : ℕ) → test j ≡ other j) → (f i : ℕ) → first_second test f i ≡ first_second other f i
-    second_same test other h zero i = refl
-    second_same test other h (suc f) i = ap₂ (λ (b : Bool) (m : Option Instant). elim b [ true ↦ Some (i ÷ 1) | false ↦ m ]) (h i) (second_same test other h f (suc i))
 
     found_is : (f : ℕ) (b : Bool) → b ≡ true → ((j : ℕ) → not_beyond side s j 1 ≡ in_conflict side s j 1) → first_second (λ j. not_beyond side s j 1) f 0 ≡ elim b [ true ↦ first_second (λ j. in_conflict side s j 1) f 0 | false ↦ None ]
     found_is f true e h = second_same (λ j. not_beyond side s j 1) (λ j. in_conflict side s j 1) h f 0

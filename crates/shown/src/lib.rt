@@ -115,7 +115,7 @@ fn shown_at(asked: SideQuestion, t: Instant) -> Option<Instant>
 }
 
 // The window's end is in the window where its start is; without an end the search is left. (That the window is open is a clause
-// here: an `OpenQuestion` names no side, and with one it would be a second `SideQuestion`.)
+// here: `OpenQuestion`, below, names no side, and with one it would be a second `SideQuestion`.)
 #[inline(always)]
 fn from_end(asked: SideQuestion) -> Option<Instant>
     requires opened { Opened asked.question.sensed }

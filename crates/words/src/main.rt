@@ -177,7 +177,7 @@ fn print_sheet(out: &impl Print, sheet: &[u8]) -> io::Result<()> {
 }
 
 fn answer_file<P: Print, R: io::Read>(out: &P, file: &mut R) -> io::Result<()> {
-    // One byte more than the longest sheet, so that a longer one is seen. (`program::answer_read` reads so too, but gives the answer's bytes, and the words are of the sheet's.)
+    // One byte more than the longest sheet, so that a longer one is seen. (`program::answer_read` reads so too, but gives the answer's bytes, and words are of the sheet's.)
     let mut room = [0u8; MAX_SHEET + 1];
     print_sheet(out, read_part(file, &mut room)?)
 }

@@ -57,7 +57,7 @@ abbrev pub Sized : Side → SensedQuestion → Type 0
 Sized Lower s = Sizes s
 Sized Upper s = Sizes s × UpperSizes s
 
--- The seconds that a search needs at most after d: chosen, and enough for the limits (`Reaches-end`)
+-- The seconds that a search needs at most after d: chosen, and enough for the limits (`reaches_end`)
 abbrev pub search_seconds : Side → ℕ
 search_seconds Lower = 1680000
 search_seconds Upper = 201680000
