@@ -52,8 +52,8 @@ const EQUIVALENT: &[Equivalent] = &[
         reason: "0 times 1 is 0, as 0 times 0 is",
     },
     Equivalent {
-        function: "rule_not_beyond",
-        turned: "if rule.strength * since.n <= gap * since.m {",
+        function: "not_beyond",
+        turned: "if self.strength * since.n <= gap * since.m {",
         reason: "at G/a the arc ends where the straight begins: both comparisons are the same there",
     },
     Equivalent {

@@ -9,12 +9,13 @@ use native.Mathlib.Omega.{arith}
 use borrow.Author.Tests.{le-leb, lt-leb}
 use lib.Dec.{T, leb, leb→le, le→leb, nleb→lt}
 use mir.Facts.{and_yes, yes_and, and_no}
+use Rattle.std.proofs.lemmas.Bool.{agree_below_at}
 use Rattle.advisory.specs.Catalogue.{article_entries, not_judged, among, article_codes, not_judged_codes, catalogue_of, Listed, CodeWithin}
 use Rattle.advisory.specs.ReactionTable.{reaction_table}
 use Rattle.advisory.specs.Advised.{advised_of}
 use Rattle.advisory.specs.inner.Codes.{Standing}
 use Rattle.advisory.specs.declared.Advice.{Advice}
-use Rattle.advisory.proofs.EveryBelow.{below, same_below, iff_below}
+use Rattle.advisory.proofs.EveryBelow.{below, iff_below}
 use Rattle.advisory.specs.declared.CodeError.{CodeError}
 use Rattle.advisory.specs.declared.Instruction.{Instruction}
 
@@ -30,11 +31,11 @@ within_iff low high code = (
 -- the codes of the catalogue's two lists
 pub article_range : (code : ℕ) → code < 256 → among code article_codes ≡ within 1 16 code
 unfolding article_entries
-article_range = same_below (λ (k : ℕ). among k article_codes) (within 1 16) 256 tt
+article_range code = agree_below_at (λ (k : ℕ). among k article_codes) (within 1 16) 256 code refl
 
 pub not_judged_range : (code : ℕ) → code < 256 → among code not_judged_codes ≡ within 17 18 code
 unfolding not_judged
-not_judged_range = same_below (λ (k : ℕ). among k not_judged_codes) (within 17 18) 256 tt
+not_judged_range code = agree_below_at (λ (k : ℕ). among k not_judged_codes) (within 17 18) 256 code refl
 
 pub listing_past_16 : (code : ℕ) → code < 256 → 16 < code → catalogue_of code ≡ cond (within 17 18 code) (Err CodeError.NotJudged) (Err CodeError.Unknown)
 unfolding catalogue_of
@@ -59,7 +60,7 @@ pub lists_1_to_16 : (code : ℕ) → code < 256 → Listed code ↔ CodeWithin 1
 unfolding catalogue_of article_entries not_judged
 lists_1_to_16 code h =
     Iff.trans (article_iff (catalogue_of code))
-    (Iff.trans (iff_below (λ (k : ℕ). is_article (catalogue_of k)) (within 1 16) 256 tt code h) (within_iff 1 16 code))
+    (Iff.trans (iff_below (λ (k : ℕ). is_article (catalogue_of k)) (within 1 16) 256 refl code h) (within_iff 1 16 code))
 
 abbrev stands : ℕ → Result Instruction CodeError → Bool
 stands code (Ok i) = within 1 16 code

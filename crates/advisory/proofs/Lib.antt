@@ -1,6 +1,6 @@
 pub mod EveryBelow
-pub mod Rows
 pub mod CodeRanges
 pub mod SameInstruction
 pub mod TablesAgree
 pub mod Limits
+pub mod Rows

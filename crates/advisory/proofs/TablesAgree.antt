@@ -11,13 +11,13 @@ use Prim.Native.Nat.{ℕ, ◌<◌, ◌*◌}
 use native.Mathlib.Decide.{dec_lt}
 use native.Mathlib.Omega.{arith}
 use lib.Dec.{T, eqb, eqb→eq, eqb_refl}
+use Rattle.std.proofs.lemmas.Option.{slice_get_past}
 use Rattle.advisory.specs.Catalogue.{Entry, article_entries, Named, not_judged, catalogue_of, Listed}
 use Rattle.advisory.specs.ReactionTable.{reaction_table, row_at, rows_with}
 use Rattle.advisory.specs.Advised.{advised_of, instruction_in}
 use Rattle.advisory.specs.Table1.{g, g_over, table1, numbered, printed_at, InNeitherTable}
 use Rattle.advisory.specs.declared.Reaction.{Reaction}
 use Rattle.advisory.proofs.EveryBelow.{below, iff_below}
-use Rattle.advisory.proofs.Rows.{row_past}
 use Rattle.advisory.proofs.CodeRanges.{is_article, article_iff}
 use Rattle.advisory.proofs.SameInstruction.{same_optional, same_optional_lem}
 
@@ -48,7 +48,7 @@ pub listed_has_one_row : (code : ℕ) → code < 256 → Listed code ↔ (rows_w
 unfolding catalogue_of article_entries not_judged reaction_table
 listed_has_one_row code h =
     Iff.trans (article_iff (catalogue_of code))
-    (Iff.trans (iff_below (λ (k : ℕ). is_article (catalogue_of k)) (λ (k : ℕ). eqb (rows_with reaction_table k) 1) 256 tt code h)
+    (Iff.trans (iff_below (λ (k : ℕ). is_article (catalogue_of k)) (λ (k : ℕ). eqb (rows_with reaction_table k) 1) 256 refl code h)
     (equal_iff (rows_with reaction_table code) 1))
 
 abbrev is_listed : Option Reaction → Bool
@@ -65,7 +65,7 @@ row_is_listed place r e = go (dec_lt place 16)
         (article_iff (catalogue_of r.code)).1
         (subst (λ (x : Option Reaction). T (is_listed x)) e (below (λ (k : ℕ). is_listed (row_at reaction_table k)) 16 tt place h))
     go (no h) =
-        let past : None ≡ row_at reaction_table place = row_past reaction_table place (omega arith) in
+        let past : row_at reaction_table place ≡ None = slice_get_past reaction_table place (omega arith) in
         let z : ◌≡◌ {A = ℕ} 0 1 = cc in
         absurd (omega arith)
 

@@ -1,5 +1,5 @@
 -- The reaction table of document 01: "the reaction table holds one row per code: strength and delay."
-use Rattle.std.specs.Prelude.{slice_get, cond, List, [], ◌∷◌, ℕ, zero, suc, ◌+◌, eqb, None, Option, Some}
+use Rattle.std.specs.Prelude.{slice_get, cond, List, [], ◌∷◌, ℕ, ◌+◌, eqb, None, Option, Some}
 use Rattle.advisory.specs.declared.Reaction.{Reaction}
 
 -- A row: code, strength in grains/s² and delay in seconds.

@@ -6,11 +6,11 @@ ghost use Rattle.advisory.specs.Catalogue.{sense_of_code, target_of, catalogue_o
 ghost use Rattle.advisory.specs.ReactionTable.{reaction_table, row_at, row_of};
 ghost use Rattle.advisory.specs.Advised.{advised_of};
 
-// The way an advisory sends the ownship.
+// The way an advisory sends the ownship, with the number that a question has for it.
 #[derive(Clone, Copy)]
 pub enum Sense {
-    Climb,
-    Descend,
+    Descend = 0,
+    Climb = 1,
 }
 
 // The vertical speed to reach. Upward speeds are positive in both senses; a grain per second is a foot per minute.
@@ -36,7 +36,8 @@ pub enum CodeError {
     Unknown,
 }
 
-// A row of the reaction table: strength in grains/s², delay in seconds.
+// A row of the reaction table: strength in grains/s², delay in seconds. (The code is a byte, as a question has it: which bytes are codes is what the catalogue
+// and this table say, and a type of codes would say it a third time.)
 #[derive(Clone, Copy)]
 pub struct Reaction {
     pub code: u8,
@@ -44,7 +45,7 @@ pub struct Reaction {
     pub delay: u64,
 }
 
-// All that a judged code tells the pilot.
+// All that a judged code tells the pilot. (Flat, as a line of Table 1 is: with the advice as a field, each definition and contract would say `instruction.advice.sense`.)
 #[derive(Clone, Copy)]
 pub struct Instruction {
     pub sense: Sense,
@@ -201,16 +202,11 @@ pub fn reaction_row(place: usize) -> Option<Reaction>
 }
 
 // The first row with this code.
-#[tactic(auto, unfolding(crate::specs::ReactionTable::reaction_table), using(crate::proofs::Rows::search_from))]
+#[tactic(auto, unfolding(crate::specs::ReactionTable::reaction_table))]
 pub fn reaction_to(code: u8) -> Option<Reaction>
     ensures { result ≡ row_of reaction_table code }
 {
-    for row in &REACTION_TABLE {
-        if row.code == code {
-            return Some(*row);
-        }
-    }
-    None
+    REACTION_TABLE.iter().find(|row| row.code == code).copied()
 }
 
 // Sense, target, strength and delay of a judged code. Each article code has its row, so a row is never missing here.

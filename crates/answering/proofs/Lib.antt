@@ -1,2 +1,3 @@
 pub mod StoredWithinLimits
 pub mod RefusalOrder
+pub mod Kept

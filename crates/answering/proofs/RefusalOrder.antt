@@ -1,7 +1,7 @@
 -- "Coded: 7, 8, 9, 6.", with 17 "after 9 and before 6". Free: 7, 4, 5, 14, 15, 16, 6. In every state that a sheet can reach, a question's refusal is the first that its list of tests gives. Assumes nothing.
 use Rattle.std.specs.Prelude.{Err, None, Ok, Option, Result, Some, ⊤}
 use mathlib.Core.Path.{◌≡◌, refl, sym, ap, ◌∙◌}
-use mathlib.Core.Bool.{Bool, true, false, cond, ◌&&◌, ◌||◌}
+use mathlib.Core.Bool.{Bool, true, false, cond, ◌&&◌}
 use mathlib.Core.Logic.{⊎_elim}
 use Prim.Native.Nat.{ℕ, ◌<◌}
 use native.Mathlib.Omega.{arith}
@@ -12,9 +12,8 @@ use lib.Signed.{le_z}
 use lib.Ieee.Bits.{is_true}
 use lib.Ieee.Fits.{and_l, and_r}
 use Rattle.std.specs.Cmp.Derive.{both_true}
+use Rattle.std.proofs.lemmas.Bool.{and_left, and_right}
 use Rattle.advisory.specs.declared.Instruction.{Instruction}
-use Rattle.advisory.specs.declared.Sense.{Sense}
-use Rattle.advisory.specs.declared.Sense.TheVariants.{Climb, Descend}
 use Rattle.advisory.specs.Catalogue.{rate_of}
 use Rattle.advisory.specs.Advised.{advised_of}
 use Rattle.advisory.specs.inner.Codes.{Standing, InLimits}
@@ -25,26 +24,19 @@ use Rattle.question.specs.declared.Settings.{Settings}
 use Rattle.question.specs.declared.Question.{Question}
 use Rattle.verdict.specs.declared.Verdict.{Verdict}
 use Rattle.limits.specs.Limits.{distance_within, height_within, closing_speed_within, max_speed, speed_within, min_strength, max_strength, strength_within, max_delay, delay_within}
-use Rattle.question.specs.Refusals.{is_number, encounter_within, puck_within, delay_acceleration_within, sides_known, targets_within, strengths_within, times_within, limit_allowed, first_refusal, question_checks, refusal}
+use Rattle.question.specs.Refusals.{encounter_within, puck_within, delay_acceleration_within, sides_known, targets_within, strengths_within, times_within, limit_allowed, first_refusal, question_checks, refusal}
 use Rattle.sensed.specs.Sensed.{sensed_question}
-use Rattle.coded.specs.Coded.{sense_number, instructed, maintainable, asked, coded_question}
+use Rattle.coded.specs.Coded.{instructed, maintainable, asked, coded_question}
+use Rattle.coded.proofs.SenseNumbers.{sense_known}
 use Rattle.verdict.specs.Verdicts.{verdict}
 use Rattle.judge.specs.Answers.{checked_answer, answer}
-use Rattle.integers.proofs.Branches.{picks_yes, picks_no}
+use Rattle.std.proofs.lemmas.Bool.{cond-true, cond-false}
 use Rattle.question.proofs.WithinLimits.{Between, between}
 use Rattle.answering.specs.declared.State.{State}
 use Rattle.answering.specs.States.{StoredEncounterWithin, StoredWithin}
 use Rattle.answering.specs.Replies.{asked_answer, coded_answer, free_answer, code_from, coded_checks, free_checks, refusal_in}
 use Rattle.advisory.specs.declared.CodeError.{CodeError}
 use Rattle.question.specs.declared.refusal.Refusal.{Refusal}
-
--- ---- tests that fail
-fails_left : {a : Bool} (b : Bool) → a ≡ false → a && b ≡ false
-fails_left b e = ap (λ (x : Bool). x && b) e
-
-fails_right : (a : Bool) {b : Bool} → b ≡ false → a && b ≡ false
-fails_right true e = e
-fails_right false e = refl
 
 -- ---- the plain judge, where the encounter and the settings are within their limits: the question's own numbers
 refused_is : (k : Result ⊤ Refusal) (v : Verdict) → refusal_in (checked_answer k v) ≡ k
@@ -56,7 +48,7 @@ module _ (x : Encounter) (y : Settings) (met : T (encounter_within x)) (puck : T
   unfolding answer refusal
   plain_order z =
       refused_is (refusal x y z) (verdict z (sensed_question x y z))
-      ∙ picks_yes (encounter_within x) _ _ (is_true (encounter_within x) met) ∙ picks_yes (puck_within y) _ _ (is_true (puck_within y) puck) ∙ picks_yes (delay_acceleration_within y) _ _ (is_true (delay_acceleration_within y) acceleration)
+      ∙ cond-true (encounter_within x) _ _ (is_true (encounter_within x) met) ∙ cond-true (puck_within y) _ _ (is_true (puck_within y) puck) ∙ cond-true (delay_acceleration_within y) _ _ (is_true (delay_acceleration_within y) acceleration)
 
   -- ---- a judged code passes 4, 5 and 14 to 16, and its delay is within limits: 6 only through its limit
   own_speed : Between (neg_ℤ (pos max_speed)) (pos max_speed) x.speed
@@ -66,10 +58,6 @@ module _ (x : Encounter) (y : Settings) (met : T (encounter_within x)) (puck : T
       let c = closing_speed_within x.closing_speed in
       let v = speed_within x.speed in
       between (neg_ℤ (pos max_speed)) (pos max_speed) x.speed (and_r ((r && h) && c) v (and_l (((r && h) && c) && v) (speed_within x.intruder_speed) met))
-
-  sense_known : (s : Sense) → (is_number (pos 0) (sense_number s) || is_number (pos 1) (sense_number s)) ≡ true
-  sense_known Climb = refl
-  sense_known Descend = refl
 
   module _ (i : Instruction) (limits : InLimits i) (limit : ℤ) where
     sides_pass : sides_known (instructed i x.speed limit) ≡ true
@@ -98,7 +86,7 @@ module _ (x : Encounter) (y : Settings) (met : T (encounter_within x)) (puck : T
     judged_order : refusal_in (answer x y (instructed i x.speed limit)) ≡ cond (limit_allowed (instructed i x.speed limit)) (Ok tt) (Err Refusal.TimesOutside)
     judged_order =
         let z = instructed i x.speed limit in
-        plain_order z ∙ picks_yes (sides_known z) _ _ sides_pass ∙ picks_yes (targets_within z) _ _ targets_pass ∙ picks_yes (strengths_within z) _ _ strengths_pass ∙ ap (λ (b : Bool). cond b (Ok tt) (Err Refusal.TimesOutside)) times_by_limit
+        plain_order z ∙ cond-true (sides_known z) _ _ sides_pass ∙ cond-true (targets_within z) _ _ targets_pass ∙ cond-true (strengths_within z) _ _ strengths_pass ∙ ap (λ (b : Bool). cond b (Ok tt) (Err Refusal.TimesOutside)) times_by_limit
 
     -- 17 comes before it
     maintained_order : (may : Bool)
@@ -110,11 +98,11 @@ module _ (x : Encounter) (y : Settings) (met : T (encounter_within x)) (puck : T
       → refusal_in (asked_answer x y (asked code a x.speed limit)) ≡ first_refusal (coded_checks (Some x) code limit)
   asked_order code limit (Ok i) limits stands =
       maintained_order i (limits i refl) limit (maintainable code x.speed)
-      ∙ sym (picks_yes (code_from 1 18 code) _ _ (both_true (le-leb 1 code (omega arith)) (le-leb code 18 (omega arith))) ∙ picks_yes (code_from 1 16 code) _ _ (both_true (le-leb 1 code (omega arith)) (le-leb code 16 (omega arith))))
+      ∙ sym (cond-true (code_from 1 18 code) _ _ (both_true (le-leb 1 code (omega arith)) (le-leb code 18 (omega arith))) ∙ cond-true (code_from 1 16 code) _ _ (both_true (le-leb 1 code (omega arith)) (le-leb code 16 (omega arith))))
   asked_order code limit (Err CodeError.NotJudged) limits stands =
-      sym (picks_yes (code_from 1 18 code) _ _ (both_true (le-leb 1 code (omega arith)) (le-leb code 18 (omega arith))) ∙ picks_no (code_from 1 16 code) _ _ (fails_right (leb 1 code) (lt-leb code 16 (omega arith))))
+      sym (cond-true (code_from 1 18 code) _ _ (both_true (le-leb 1 code (omega arith)) (le-leb code 18 (omega arith))) ∙ cond-false (code_from 1 16 code) _ _ (and_right (leb 1 code) (leb code 16) (lt-leb code 16 (omega arith))))
   asked_order code limit (Err CodeError.Unknown) limits stands =
-      sym (picks_no (code_from 1 18 code) _ _ (⊎_elim (λ low. fails_left (leb code 18) (lt-leb 1 code low)) (λ high. fails_right (leb 1 code) (lt-leb code 18 high)) stands))
+      sym (cond-false (code_from 1 18 code) _ _ (⊎_elim (λ low. and_left (leb 1 code) (leb code 18) (lt-leb 1 code low)) (λ high. and_right (leb 1 code) (leb code 18) (lt-leb code 18 high)) stands))
 
 -- ---- the theorems
 free_from : (m : Option Encounter) (y : Settings) → StoredEncounterWithin m → T (puck_within y) → T (delay_acceleration_within y) → (z : Question)

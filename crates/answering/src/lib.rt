@@ -1,9 +1,13 @@
 // The state that a sheet keeps, and the reply to each record. `specs/` says what both are.
 #![tactic(auto)]
 
-ghost use Rattle.std.specs.Prelude.{◌≡◌, cond};
-ghost use Rattle.answering.specs.States.{starting_state, state_after};
-ghost use Rattle.answering.specs.Replies.{settings_reply, coded_answer, free_answer, reply_to};
+ghost use Rattle.std.specs.Prelude.{◌≡◌, cond, Ok, Err};
+ghost use Rattle.std.specs.Option.{option_map};
+ghost use Rattle.std.specs.Result.{result_unwrap_or, result_err};
+ghost use Rattle.question.specs.declared.refusal.Refusal.TheVariants.{EncounterOutside, PuckOutside, DelayAccelerationOutside};
+ghost use Rattle.question.specs.Refusals.{encounter_within, puck_within, delay_acceleration_within};
+ghost use Rattle.answering.specs.States.{starting_state, with_settings, with_encounter, state_after};
+ghost use Rattle.answering.specs.Replies.{coded_answer, free_answer, reply_to};
 
 use coded::coded_question;
 use judge::judge;
@@ -34,66 +38,68 @@ impl State {
     }
 
     // What a record leaves, and its reply, if it has one.
-    #[tactic(auto, unfolding(crate::specs::States::state_after, crate::specs::Replies::reply_to))]
+    #[tactic(auto, using(crate::proofs::Kept::kept_state, crate::proofs::Kept::kept_reply), unfolding(crate::specs::States::state_after, crate::specs::Replies::reply_to))]
     pub fn answer(self, given: Record) -> (State, Option<Result<Verdict, Refusal>>)
         ensures left { result.0 ≡ state_after self given }
         ensures reply { result.1 ≡ reply_to self given }
     {
         match given {
-            Record::Encounter(met) => {
-                let next = State {
-                    encounter: Some(met),
-                    ..self
-                };
-                self.kept_if(encounter_within(met), next, Refusal::EncounterOutside)
-            }
-            Record::Puck(radius, half_height) => {
-                let puck = Settings {
-                    radius,
-                    half_height,
-                    ..self.settings
-                };
-                let next = State {
-                    settings: puck,
-                    ..self
-                };
-                self.kept_if(puck_within(puck), next, Refusal::PuckOutside)
-            }
+            Record::Encounter(met) => self.keep(self.with_encounter(met)),
+            Record::Puck(radius, half_height) => self.keep(self.with_puck(Settings {
+                radius,
+                half_height,
+                ..self.settings
+            })),
             Record::DelayAcceleration(delay_acceleration) => {
-                let delayed = Settings {
+                self.keep(self.with_delay_acceleration(Settings {
                     delay_acceleration,
                     ..self.settings
-                };
-                let next = State {
-                    settings: delayed,
-                    ..self
-                };
-                self.kept_if(
-                    delay_acceleration_within(delayed),
-                    next,
-                    Refusal::DelayAccelerationOutside,
-                )
+                }))
             }
             Record::Coded(code, limit) => (self, Some(self.coded_answer(code, limit))),
             Record::Free(question) => (self, Some(self.free_answer(question))),
         }
     }
 
-    // What is accepted is kept, and gets no answer; of what is refused the answer says why.
-    fn kept_if(
-        self,
-        accepted: bool,
-        next: State,
-        why: Refusal,
-    ) -> (State, Option<Result<Verdict, Refusal>>)
-        ensures left { result.0 ≡ cond accepted next self }
-        ensures reply { result.1 ≡ settings_reply accepted why }
+    // The next state is kept, and gets no answer; of one that is refused the answer says why.
+    fn keep(self, next: Result<State, Refusal>) -> (State, Option<Result<Verdict, Refusal>>)
+        ensures left { result.0 ≡ result_unwrap_or next self }
+        ensures reply { result.1 ≡ option_map Err (result_err next) }
     {
-        if accepted {
-            (next, None)
-        } else {
-            (self, Some(Err(why)))
+        (next.unwrap_or(self), next.err().map(Err))
+    }
+
+    // The state with an encounter, or refusal 1.
+    fn with_encounter(self, met: Encounter) -> Result<State, Refusal>
+        ensures { result ≡ cond (encounter_within met) (Ok (with_encounter self met)) (Err EncounterOutside) }
+    {
+        if !encounter_within(met) {
+            return Err(Refusal::EncounterOutside);
         }
+        Ok(State {
+            encounter: Some(met),
+            ..self
+        })
+    }
+
+    // The state with a puck, or refusal 2.
+    fn with_puck(self, settings: Settings) -> Result<State, Refusal>
+        ensures { result ≡ cond (puck_within settings) (Ok (with_settings self settings)) (Err PuckOutside) }
+    {
+        if !puck_within(settings) {
+            return Err(Refusal::PuckOutside);
+        }
+        Ok(State { settings, ..self })
+    }
+
+    // The state with a delay acceleration, or refusal 3. (Beside `with_puck`, as each setting's test and refusal stand together: one function for both would be handed the two apart.)
+    fn with_delay_acceleration(self, settings: Settings) -> Result<State, Refusal>
+        ensures { result ≡ cond (delay_acceleration_within settings) (Ok (with_settings self settings)) (Err DelayAccelerationOutside) }
+    {
+        if !delay_acceleration_within(settings) {
+            return Err(Refusal::DelayAccelerationOutside);
+        }
+        Ok(State { settings, ..self })
     }
 
     #[tactic(auto, unfolding(crate::specs::Replies::coded_answer))]

@@ -10,7 +10,7 @@ use native.Mathlib.Omega.{arith}
 use lib.IntN.{ℤ, pos, ◌+ℤ◌, ◌-ℤ◌, ◌*ℤ◌}
 use lib.Signed.{◌≤ℤ◌, ◌<ℤ◌, clash_ℤ}
 use Rattle.integers.proofs.Quotation.{quote}
-use Rattle.integers.proofs.Certificates.{ring, by≤, div≤, gap≤, gap<, ◌⊞◌, ◌⊠◌, 0≤pos, pos≤, pos<, split<}
+use Rattle.integers.proofs.Certificates.{by≤, div≤, gap≤, gap<, ◌⊞◌, ◌⊠◌, 0≤pos, pos≤, pos<, split<}
 use Rattle.integers.proofs.Laws.{split≤}
 use Rattle.path.specs.declared.SensedQuestion.{SensedQuestion}
 use Rattle.path.specs.declared.Side.TheVariants.{Lower, Upper}
@@ -19,7 +19,7 @@ use Rattle.path.specs.Paths.{lower_path, upper_path}
 use Rattle.path.specs.Window.{Window}
 use Rattle.path.specs.Conflict.{lower_edge, upper_edge, Conflict}
 use Rattle.path.proofs.Profile.{scaled_up}
-use Rattle.path.proofs.SideProfiles.{lower_scale, lower_edge_scale, upper_scale}
+use Rattle.path.proofs.SideProfiles.{lower_scale, lower_edge_scale, upper_scale, upper_edge_scale}
 use Rattle.grid.proofs.Neighbours.{neighbours}
 use Rattle.grid.proofs.LowerMoves.{top_speed, lower_moves}
 use Rattle.band.proofs.WindowBetween.{window_scaled, window_within}
@@ -38,9 +38,6 @@ lower_there a b M k h f j pb o l = div≤ (a ∷ b ∷ M ∷ k ∷ []) (h ∷ f 
 
 lower_here : (a M S k : ℕ) (h f g : ℤ) → S ≤ M → 1 ≤ k → f ≤ℤ (pos 2 *ℤ pos a *ℤ pos M *ℤ pos M *ℤ (h -ℤ pos k)) → g ≤ℤ (f +ℤ pos 2 *ℤ pos a *ℤ pos M *ℤ pos S) → g ≤ℤ (pos 2 *ℤ pos a *ℤ pos M *ℤ pos M *ℤ (h +ℤ pos k))
 lower_here a M S k h f g i pk l n = by≤ (a ∷ M ∷ S ∷ k ∷ []) (h ∷ f ∷ g ∷ []) (gap≤ l ⊞ gap≤ n ⊞ 0≤pos (2 * a * M) ⊠ (0≤pos (2 * M) ⊠ gap≤ (pos≤ pk) ⊞ gap≤ (pos≤ i))) (λ v. search quote depth 20) tt
-
-upper_edge_scale : (s : SensedQuestion) (m x : ℕ) → upper_edge s (m * x) ≡ pos x *ℤ pos x *ℤ upper_edge s m
-upper_edge_scale s m x = ring (b s ∷ m ∷ x ∷ k s ∷ []) (wh s ∷ []) (λ v. search quote depth 20) tt
 
 module _ (s : SensedQuestion) where
   lower_scaled : (n m x : ℕ) → 0 < m → Conflict Lower s n m → Conflict Lower s (n * x) (m * x)

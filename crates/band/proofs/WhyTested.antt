@@ -1,7 +1,7 @@
 -- Why 14 and 15 are tested: two questions, refused by them, with conflict times on both sides, and yet always outside the band. The ownship climbs from level flight to
 -- 10 with strength 2, f = t²; the intruder is 7 above, k is 1, the limit 4 s. With upper strength 1 (14), j = t²/2; with upper target 2 (15), j = 2 × t − 1 from
 -- 1 s on. Up to 3 s j is below 6 = 7 − 1, after it f above 8 = 7 + 1: the upper path has not yet come to the intruder when the lower one has passed it. Assumes nothing.
-use Rattle.std.specs.Prelude.{Err, Ok}
+use Rattle.std.specs.Prelude.{Err}
 use mathlib.Core.Path.{◌≡◌, refl, sym, subst}
 use mathlib.Core.List.{[], ◌∷◌}
 use mathlib.Core.Logic.{inl, inr, ⊎_elim}
@@ -106,8 +106,3 @@ needs_15 =
         outside = λ n m w. apart 2 20 n m (lower_path s n m) (upper_path s n m) w.divisor (omega arith) (λ l. lower_from s m (rises 2 2 10 level (3 * m) n m l)) (λ l. upper_to s m (rises 2 2 2 level n (3 * m) m l));
       },
     )
-
--- with upper strength and target no less than strength and target, the question is accepted
-pub accepted_with_order : refusal above_7 puck_1 (climb_to_10 (pos 10) (pos 2)) ≡ Ok tt
-unfolding refusal
-accepted_with_order = refl

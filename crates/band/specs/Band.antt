@@ -66,4 +66,4 @@ abbrev pub SaysClear : Result Verdict Refusal → Type 0
 SaysClear (Ok (Clear sides)) = Unit {0}
 SaysClear (Ok (Conflict t)) = ⊥
 SaysClear (Ok (Conflicts t u)) = ⊥
-SaysClear (Err number) = ⊥
+SaysClear (Err why) = ⊥

@@ -1,1 +1,2 @@
 pub mod StoredNumbers
+pub mod Zero

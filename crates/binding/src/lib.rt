@@ -1,8 +1,8 @@
-// The judge's entries with results as structs of numbers. `binding_c` exports them to C and Rust, where a question's numbers pass as themselves.
+// The judge's entries with results as structs of numbers, and each such struct as it is made of an answer (`From`). `binding_c` exports them to C and Rust, where a question's
+// numbers pass as themselves.
 #![tactic(auto)]
 
 ghost use Rattle.std.specs.Prelude.{◌≡◌, length};
-ghost use Rattle.instant.specs.Lowest.{no_time};
 ghost use Rattle.judge.specs.Answers.{answer};
 ghost use Rattle.sheet.specs.WholeSheet.{outcome, area_after};
 ghost use Rattle.candidate.specs.FlightAnswers.{yes_number, flight_answer};
@@ -23,7 +23,7 @@ use verdict::Verdict;
 
 // An answer record's kind and numbers; fields that the kind does not use are 0.
 #[repr(C)]
-#[derive(Clone, Copy)]
+#[derive(Clone, Copy, PartialEq, Eq)]
 pub struct JudgeResult {
     // 65, 66, 67 or 68.
     pub kind: u64,
@@ -37,6 +37,7 @@ pub struct JudgeResult {
     pub upper_divisor: u64,
 }
 
+// (No `From`: a kind, a number and two times are no type of their own, and one made for them would have these fields once more.)
 fn with_times(kind: u64, number: u64, lower: Time, upper: Time) -> JudgeResult
     ensures { result ≡ with_times kind number lower upper }
 {
@@ -52,38 +53,36 @@ fn with_times(kind: u64, number: u64, lower: Time, upper: Time) -> JudgeResult
     }
 }
 
-// Three zeros, which are no time.
-fn no_time() -> Time
-    ensures { result ≡ no_time }
-{
-    Time {
-        seconds: 0,
-        remainder: 0,
-        divisor: 0,
+impl From<Verdict> for JudgeResult {
+    ghost from_gives = { λ verdict flat. flat ≡ flat_verdict verdict };
+
+    fn from(verdict: Verdict) -> JudgeResult {
+        match verdict {
+            Verdict::Clear(sides) => with_times(
+                65,
+                u64::from(sides_number(sides)),
+                Time::default(),
+                Time::default(),
+            ),
+            Verdict::Conflict(t) => with_times(66, 0, t, Time::default()),
+            Verdict::Conflicts(t, u) => with_times(67, 0, t, u),
+        }
     }
 }
 
-fn flat_verdict(verdict: Verdict) -> JudgeResult
-    ensures { result ≡ flat_verdict verdict }
-{
-    match verdict {
-        Verdict::Clear(sides) => with_times(
-            65,
-            u64::from(sides_number(sides)),
-            no_time(),
-            no_time(),
-        ),
-        Verdict::Conflict(t) => with_times(66, 0, t, no_time()),
-        Verdict::Conflicts(t, u) => with_times(67, 0, t, u),
-    }
-}
+impl From<Result<Verdict, Refusal>> for JudgeResult {
+    ghost from_gives = { λ answer flat. flat ≡ flat_answer answer };
 
-fn flat_answer(answer: Result<Verdict, Refusal>) -> JudgeResult
-    ensures { result ≡ flat_answer answer }
-{
-    match answer {
-        Ok(verdict) => flat_verdict(verdict),
-        Err(why) => with_times(68, u64::from(why.number()), no_time(), no_time()),
+    fn from(answer: Result<Verdict, Refusal>) -> JudgeResult {
+        match answer {
+            Ok(verdict) => JudgeResult::from(verdict),
+            Err(why) => with_times(
+                68,
+                u64::from(why.number()),
+                Time::default(),
+                Time::default(),
+            ),
+        }
     }
 }
 
@@ -156,7 +155,7 @@ pub fn plain_advice(
 pub fn judge_plain(encounter: Encounter, settings: Settings, question: Question) -> JudgeResult
     ensures { result ≡ flat_answer (answer encounter settings question) }
 {
-    flat_answer(judge(encounter, settings, question))
+    JudgeResult::from(judge(encounter, settings, question))
 }
 
 // Of an accepted sheet the answer's length, and refusal 0; of a refused one the number, and length 0.
@@ -167,18 +166,20 @@ pub struct SheetResult {
     pub length: u64,
 }
 
-fn flat_outcome(outcome: Result<usize, Refusal>) -> SheetResult
-    ensures { result ≡ flat_outcome outcome }
-{
-    match outcome {
-        Ok(written) => SheetResult {
-            refusal: 0,
-            length: written as u64,
-        },
-        Err(why) => SheetResult {
-            refusal: u64::from(why.number()),
-            length: 0,
-        },
+impl From<Result<usize, Refusal>> for SheetResult {
+    ghost from_gives = { λ outcome flat. flat ≡ flat_outcome outcome };
+
+    fn from(outcome: Result<usize, Refusal>) -> SheetResult {
+        match outcome {
+            Ok(written) => SheetResult {
+                refusal: 0,
+                length: written as u64,
+            },
+            Err(why) => SheetResult {
+                refusal: u64::from(why.number()),
+                length: 0,
+            },
+        }
     }
 }
 
@@ -186,12 +187,12 @@ fn flat_outcome(outcome: Result<usize, Refusal>) -> SheetResult
 pub fn answer_sheet_bytes(sheet: &[u8], area: &mut [u8]) -> SheetResult
     ensures { (result ≡ flat_outcome (outcome sheet.now (length area.old))) × (area.new ≡ area_after sheet.now area.old) }
 {
-    flat_outcome(answer_sheet(sheet, area))
+    SheetResult::from(answer_sheet(sheet, area))
 }
 
 // A piece, the time from which it holds, and its coefficients of t², t and 1; a straight's first is 0.
 #[repr(C)]
-#[derive(Clone, Copy)]
+#[derive(Clone, Copy, Default)]
 pub struct PieceResult {
     // 1 for a straight, 2 for an arc, 0 where there is no piece.
     pub kind: u64,
@@ -205,7 +206,7 @@ pub struct PieceResult {
 
 // Of a drawn question refusal 0 and its one to three pieces in time's order; of a refused one the number, and no piece. What is not used is 0.
 #[repr(C)]
-#[derive(Clone, Copy)]
+#[derive(Clone, Copy, Default)]
 pub struct DrawingResult {
     pub refusal: u64,
     pub pieces: u64,
@@ -214,82 +215,64 @@ pub struct DrawingResult {
     pub third: PieceResult,
 }
 
-fn no_piece() -> PieceResult
-    ensures { result ≡ no_piece }
-{
-    PieceResult {
-        kind: 0,
-        seconds: 0,
-        remainder: 0,
-        divisor: 0,
-        square: 0.0,
-        linear: 0.0,
-        constant: 0.0,
+impl From<DrawnPiece> for PieceResult {
+    ghost from_gives = { λ drawn flat. flat ≡ flat_piece drawn };
+
+    #[tactic(auto, using(crate::proofs::Zero::default_float))]
+    fn from(drawn: DrawnPiece) -> PieceResult {
+        let from = drawn.from;
+        match drawn.piece {
+            Piece::Arc(square, linear, constant) => PieceResult {
+                kind: 2,
+                seconds: from.seconds,
+                remainder: from.remainder,
+                divisor: from.divisor,
+                square,
+                linear,
+                constant,
+            },
+            Piece::Straight(linear, constant) => PieceResult {
+                kind: 1,
+                seconds: from.seconds,
+                remainder: from.remainder,
+                divisor: from.divisor,
+                linear,
+                constant,
+                ..PieceResult::default()
+            },
+        }
     }
 }
 
-fn flat_piece(drawn: DrawnPiece) -> PieceResult
-    ensures { result ≡ flat_piece drawn }
-{
-    let from = drawn.from;
-    match drawn.piece {
-        Piece::Arc(square, linear, constant) => PieceResult {
-            kind: 2,
-            seconds: from.seconds,
-            remainder: from.remainder,
-            divisor: from.divisor,
-            square,
-            linear,
-            constant,
-        },
-        Piece::Straight(linear, constant) => PieceResult {
-            kind: 1,
-            seconds: from.seconds,
-            remainder: from.remainder,
-            divisor: from.divisor,
-            linear,
-            constant,
-            ..no_piece()
-        },
-    }
-}
+impl From<Result<Drawing, Refusal>> for DrawingResult {
+    ghost from_gives = { λ drawing flat. flat ≡ flat_content (content drawing) };
 
-// Refused as a number, with no piece.
-fn refused_drawing(refusal: u64) -> DrawingResult
-    ensures { result ≡ record { refusal = refusal; pieces = 0; first = no_piece; second = no_piece; third = no_piece } }
-{
-    DrawingResult {
-        refusal,
-        pieces: 0,
-        first: no_piece(),
-        second: no_piece(),
-        third: no_piece(),
-    }
-}
-
-fn flat_drawing(drawing: Result<Drawing, Refusal>) -> DrawingResult
-    ensures { result ≡ flat_content (content drawing) }
-{
-    match drawing {
-        Err(why) => refused_drawing(u64::from(why.number())),
-        Ok(Drawing::One(p)) => DrawingResult {
-            pieces: 1,
-            first: flat_piece(p),
-            ..refused_drawing(0)
-        },
-        Ok(Drawing::Two(p, q)) => DrawingResult {
-            pieces: 2,
-            first: flat_piece(p),
-            second: flat_piece(q),
-            ..refused_drawing(0)
-        },
-        Ok(Drawing::Three(p, q, r)) => DrawingResult {
-            refusal: 0,
-            pieces: 3,
-            first: flat_piece(p),
-            second: flat_piece(q),
-            third: flat_piece(r),
-        },
+    #[tactic(auto, using(crate::proofs::Zero::default_float))]
+    fn from(drawing: Result<Drawing, Refusal>) -> DrawingResult {
+        match drawing {
+            Err(why) => DrawingResult {
+                refusal: u64::from(why.number()),
+                ..DrawingResult::default()
+            },
+            Ok(Drawing::One(p)) => DrawingResult {
+                pieces: 1,
+                first: PieceResult::from(p),
+                ..DrawingResult::default()
+            },
+            Ok(Drawing::Two(p, q)) => DrawingResult {
+                pieces: 2,
+                first: PieceResult::from(p),
+                second: PieceResult::from(q),
+                ..DrawingResult::default()
+            },
+            Ok(Drawing::Three(p, q, r)) => DrawingResult {
+                refusal: 0,
+                pieces: 3,
+                first: PieceResult::from(p),
+                second: PieceResult::from(q),
+                third: PieceResult::from(r),
+            },
+        }
     }
 }
 
@@ -297,32 +280,34 @@ fn flat_drawing(drawing: Result<Drawing, Refusal>) -> DrawingResult
 pub fn screen_drawing(encounter: Encounter, settings: Settings, question: Question) -> DrawingResult
     ensures { result ≡ flat_content (screen_drawing encounter settings question) }
 {
-    flat_drawing(screen::screen_drawing(encounter, settings, question))
+    DrawingResult::from(screen::screen_drawing(encounter, settings, question))
 }
 
 // A screen point and refusal 0, or the refusal's number and two zeros.
 #[repr(C)]
-#[derive(Clone, Copy)]
+#[derive(Clone, Copy, Default)]
 pub struct PointResult {
     pub refusal: u64,
     pub time: f64,
     pub height: f64,
 }
 
-fn flat_point(answer: Result<ScreenPoint, Refusal>) -> PointResult
-    ensures { result ≡ flat_point answer }
-{
-    match answer {
-        Err(why) => PointResult {
-            refusal: u64::from(why.number()),
-            time: 0.0,
-            height: 0.0,
-        },
-        Ok(point) => PointResult {
-            refusal: 0,
-            time: point.time,
-            height: point.height,
-        },
+impl From<Result<ScreenPoint, Refusal>> for PointResult {
+    ghost from_gives = { λ answer flat. flat ≡ flat_point answer };
+
+    #[tactic(auto, using(crate::proofs::Zero::default_float))]
+    fn from(answer: Result<ScreenPoint, Refusal>) -> PointResult {
+        match answer {
+            Err(why) => PointResult {
+                refusal: u64::from(why.number()),
+                ..PointResult::default()
+            },
+            Ok(point) => PointResult {
+                refusal: 0,
+                time: point.time,
+                height: point.height,
+            },
+        }
     }
 }
 
@@ -335,12 +320,12 @@ pub fn screen_point(
 ) -> PointResult
     ensures { result ≡ flat_point (screen_point encounter settings question second) }
 {
-    flat_point(screen::screen_point(encounter, settings, question, second))
+    PointResult::from(screen::screen_point(encounter, settings, question, second))
 }
 
 // Of a flight that is flown refusal 0, 1 if it obeys, 1 if it is inside the puck, and the first such second; of a refused one the number. What is not used is 0.
 #[repr(C)]
-#[derive(Clone, Copy)]
+#[derive(Clone, Copy, PartialEq, Eq, Default)]
 pub struct FlightResult {
     pub refusal: u64,
     pub obeys: u64,
@@ -348,44 +333,30 @@ pub struct FlightResult {
     pub second: u64,
 }
 
-// 1 for yes, 0 for no.
-fn yes_number(yes: bool) -> u64
-    ensures { result ≡ yes_number yes }
-{
-    u64::from(yes)
-}
+impl From<Flown> for FlightResult {
+    ghost from_gives = { λ flown flat. flat ≡ flat_entry (yes_number flown.obeys) flown.inside };
 
-fn flat_flown(flown: Flown) -> FlightResult
-    ensures { result ≡ flat_entry (yes_number flown.obeys) flown.inside }
-{
-    let obeys = yes_number(flown.obeys);
-    match flown.inside {
-        None => FlightResult {
+    fn from(flown: Flown) -> FlightResult {
+        FlightResult {
             refusal: 0,
-            obeys,
-            inside: 0,
-            second: 0,
-        },
-        Some(second) => FlightResult {
-            refusal: 0,
-            obeys,
-            inside: 1,
-            second,
-        },
+            obeys: u64::from(flown.obeys),
+            inside: u64::from(flown.inside.is_some()),
+            second: flown.inside.unwrap_or(0),
+        }
     }
 }
 
-fn flat_flight(answer: Result<Flown, Refusal>) -> FlightResult
-    ensures { result ≡ flat_flight answer }
-{
-    match answer {
-        Ok(flown) => flat_flown(flown),
-        Err(why) => FlightResult {
-            refusal: u64::from(why.number()),
-            obeys: 0,
-            inside: 0,
-            second: 0,
-        },
+impl From<Result<Flown, Refusal>> for FlightResult {
+    ghost from_gives = { λ answer flat. flat ≡ flat_flight answer };
+
+    fn from(answer: Result<Flown, Refusal>) -> FlightResult {
+        match answer {
+            Ok(flown) => FlightResult::from(flown),
+            Err(why) => FlightResult {
+                refusal: u64::from(why.number()),
+                ..FlightResult::default()
+            },
+        }
     }
 }
 
@@ -398,5 +369,5 @@ pub fn judge_flight(
 ) -> FlightResult
     ensures { result ≡ flat_flight (flight_answer encounter settings advice flight.now) }
 {
-    flat_flight(candidate::judge_flight(encounter, settings, advice, flight))
+    FlightResult::from(candidate::judge_flight(encounter, settings, advice, flight))
 }

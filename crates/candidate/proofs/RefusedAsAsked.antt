@@ -2,7 +2,7 @@
 -- refused like that question, and an accepted question's flight with 18 alone. Assumes nothing.
 use Rattle.std.specs.Prelude.{Result, Ok, Err, ⊤}
 use mathlib.Core.Path.{◌≡◌, refl, sym, ap, ◌∙◌}
-use mathlib.Core.Bool.{Bool, true, false, cond, ◌&&◌}
+use mathlib.Core.Bool.{Bool, true, false, cond, and-true}
 use mathlib.Core.List.{List, [], ◌∷◌, ◌++◌}
 use lib.IntN.{ℤ}
 use Rattle.limits.specs.Limits.{target_within, strength_within}
@@ -10,14 +10,10 @@ use Rattle.question.specs.declared.Encounter.{Encounter}
 use Rattle.question.specs.declared.Settings.{Settings}
 use Rattle.question.specs.Refusals.{Check, check, first_refusal, refusal}
 use Rattle.flight.specs.HandedIn.{numbers_within}
-use Rattle.candidate.specs.declared.OneSidedAdvice.{OneSidedAdvice}
-use Rattle.candidate.specs.Advice.{asked, advice_checks, flight_refusal}
+use Rattle.question.specs.declared.one_sided_advice.OneSidedAdvice.{OneSidedAdvice}
+use Rattle.question.specs.OneSided.{asked}
+use Rattle.candidate.specs.Advice.{advice_checks, flight_refusal}
 use Rattle.question.specs.declared.refusal.Refusal.{Refusal}
-
--- what a one-sided question is not asked for
-not_asked : (b : Bool) → (b && true) ≡ b
-not_asked true = refl
-not_asked false = refl
 
 -- one check after others: it is made where they accept
 abbrev pub then_flight : Result ⊤ Refusal → Bool → Result ⊤ Refusal
@@ -33,9 +29,10 @@ checked_last (c ∷ l) within = go c.passes (checked_last l within)
     go false rest = refl
 
 module _ (x : Encounter) (y : Settings) (z : OneSidedAdvice) where
+  -- a one-sided question is not asked for its upper target and upper strength
   pub refused_as_asked : refusal x y (asked z) ≡ first_refusal (advice_checks x y z)
   unfolding refusal
-  refused_as_asked = simp (not_asked (target_within z.target), not_asked (strength_within z.strength))
+  refused_as_asked = simp (and-true (target_within z.target), and-true (strength_within z.strength))
 
   module _ (l : List ℤ) where
     -- a refused advice keeps its refusal, whatever the flight; an accepted one leaves 18
@@ -51,9 +48,3 @@ module _ (x : Encounter) (y : Settings) (z : OneSidedAdvice) where
         go (Ok _) true h = (refl, refl)
         go (Ok _) false h = cc
         go (Err n) b h = cc
-
-    pub accepted_question : flight_refusal x y z l ≡ Ok tt → refusal x y (asked z) ≡ Ok tt
-    accepted_question e = (accepted_flight e).0
-
-    pub accepted_numbers : flight_refusal x y z l ≡ Ok tt → numbers_within l ≡ true
-    accepted_numbers e = (accepted_flight e).1

@@ -1,18 +1,12 @@
--- "Say whether it obeys a one-sided advice": the advice, the question that it asks, and what is refused. x is an encounter, y the settings, z an advice, l a
--- flight's numbers.
+-- "Say whether it obeys a one-sided advice": what is refused. x is an encounter, y the settings, z an advice, l a flight's numbers.
 use Rattle.std.specs.Prelude.{◌&&◌, ◌||◌, List, [], ◌∷◌, ◌++◌, ℤ, pos, Result, ⊤}
 use Rattle.limits.specs.Limits.{target_within, strength_within, delay_within, limit_within, no_limit}
 use Rattle.question.specs.declared.Encounter.{Encounter}
 use Rattle.question.specs.declared.Settings.{Settings}
-use Rattle.question.specs.declared.Question.{Question}
 use Rattle.question.specs.Refusals.{is_number, encounter_within, puck_within, delay_acceleration_within, Check, check, first_refusal}
 use Rattle.flight.specs.HandedIn.{numbers_within}
-use Rattle.candidate.specs.declared.OneSidedAdvice.{OneSidedAdvice}
+use Rattle.question.specs.declared.one_sided_advice.OneSidedAdvice.{OneSidedAdvice}
 use Rattle.question.specs.declared.refusal.Refusal.{Refusal}
-
--- the same advice as a question for the judge: one-sided, so both upper fields are 0
-abbrev pub asked : OneSidedAdvice → Question
-asked z = record { sides = pos 1; sense = z.sense; target = z.target; upper_target = pos 0; strength = z.strength; upper_strength = pos 0; delay = z.delay; limit = z.limit }
 
 -- "the refusals of encounter, puck, e and advice", in the order of the entry for plain numbers; an advice has no sides and no upper fields to be refused for
 -- (`refused_as_asked`)

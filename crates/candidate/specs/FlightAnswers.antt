@@ -12,8 +12,9 @@ use Rattle.flight.specs.declared.Stretch.{Stretch}
 use Rattle.flight.specs.HandedIn.{flight_of}
 use Rattle.flight.specs.SensedFlight.{sensed_flight}
 use Rattle.flight.specs.inner.Tests.{obeys_test, first_inside}
-use Rattle.candidate.specs.declared.OneSidedAdvice.{OneSidedAdvice}
-use Rattle.candidate.specs.Advice.{asked, flight_refusal}
+use Rattle.question.specs.declared.one_sided_advice.OneSidedAdvice.{OneSidedAdvice}
+use Rattle.question.specs.OneSided.{asked}
+use Rattle.candidate.specs.Advice.{flight_refusal}
 use Rattle.question.specs.declared.refusal.Refusal.{Refusal}
 use Rattle.candidate.specs.declared.Flown.{Flown}
 
@@ -26,7 +27,7 @@ flight_in_sense z l = sensed_flight (sense_of (asked z)) (flight_of l)
 
 -- refused, or else flown
 abbrev pub checked_flight : Result ⊤ Refusal → SensedQuestion → List Stretch → Result Flown Refusal
-checked_flight (Err n) s l = Err n
+checked_flight (Err why) s l = Err why
 checked_flight (Ok _) s l = Ok (record { obeys = obeys_test s l; inside = first_inside s l })
 
 unfoldable pub flight_answer : Encounter → Settings → OneSidedAdvice → List ℤ → Result Flown Refusal
@@ -44,5 +45,5 @@ inside_numbers None = 0 ∷ []
 inside_numbers (Some n) = 1 ∷ n ∷ []
 
 abbrev pub flight_record : Result Flown Refusal → AnswerRecord
-flight_record (Err n) = answers 68 (refusal_number n ∷ [])
+flight_record (Err why) = answers 68 (refusal_number why ∷ [])
 flight_record (Ok flown) = answers 0 (yes_number flown.obeys ∷ inside_numbers flown.inside)

@@ -11,7 +11,7 @@ ghost use Rattle.cases.specs.Numbers.{encounter_in, settings_in, question_in};
 ghost use Rattle.cases.specs.Reports.{report_text, unread_text, WritesReport, WritesArgument};
 
 use question::{Encounter, Question, Settings};
-use reading::{NAME_ROOM, argument, argument_count, open_named, read_full};
+use reading::{NAME_ROOM, argument_count, argument_part, open_named, read_part};
 use std::fmt::Display;
 use std::io;
 use std::io::{Read, Write};
@@ -90,6 +90,7 @@ fn split_first_line(bytes: &[u8]) -> (&[u8], &[u8])
     }
 }
 
+// By `write_all`, as a file's name is bytes, perhaps no text.
 fn write_unread<O: Write>(output: &mut O, name: &[u8]) -> io::Result<()>
     ensures { OnOk result (Appends (O.contents output.old) (O.contents output.new) (unread_text name.now)) }
 {
@@ -97,7 +98,9 @@ fn write_unread<O: Write>(output: &mut O, name: &[u8]) -> io::Result<()>
     writeln!(output, ": cannot be read")
 }
 
-// Writes the name and the first line of a file, as much of it as the room has, and the report on the rest.
+// Writes the name and the first line of a file, as much of it as the room has, and the report on the rest. Name and line by `write_all`: they are bytes,
+// perhaps no text. Output, room and report are parameters, here and below: a struct would hold two `&mut`s, and each function had to promise besides that both stay where
+// they are. That the report may be called is asked with it: a function can't know what a closure that it is handed needs.
 pub fn report_file<I: Read, O: Write, T: Display + Drop, F: Fn(&[u8]) -> T>(
     input: &mut I,
     output: &mut O,
@@ -111,8 +114,7 @@ pub fn report_file<I: Read, O: Write, T: Display + Drop, F: Fn(&[u8]) -> T>(
 {
     output.write_all(name)?;
     output.write_all(b": ")?;
-    let length = read_full(input, room)?;
-    let (line, cases) = split_first_line(&room[..length]);
+    let (line, cases) = split_first_line(read_part(input, room)?);
     output.write_all(line)?;
     writeln!(output, "{}", report(cases))
 }
@@ -128,15 +130,15 @@ fn report_argument<R: Files + Env, O: Write, T: Display + Drop, F: Fn(&[u8]) -> 
     ensures { OnOk result ((name : List ℕ) × WritesArgument T.output (FnReturnsAt F.Fn report.now) (O.contents output.old) name (O.contents output.new)) }
 {
     let mut name = [0u8; NAME_ROOM];
-    let length = argument(rt, k, &mut name);
-    let name = &name[..length];
+    let name = argument_part(rt, k, &mut name);
     match open_named(rt, name) {
         Ok(mut file) => report_file(&mut file, output, name, room, report),
         Err(_) => write_unread(output, name),
     }
 }
 
-// Reports on each file that an argument names.
+// Reports on each file that an argument names. By numbers, and not by `reading::each_argument`: with that the contract finds no proof, as what the closure
+// wrote is no longer tied to the output once the calls are over.
 pub fn report_arguments<R: Files + Env, O: Write, T: Display + Drop, F: Fn(&[u8]) -> T>(
     rt: &R,
     output: &mut O,

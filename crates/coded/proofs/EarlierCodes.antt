@@ -2,17 +2,18 @@
 -- code 10 with v < 0 and code 9 with v > 0 exactly, and every other question by code is what it was. Assumes nothing.
 use Rattle.std.specs.Prelude.{Err, Ok, Result}
 use mathlib.Core.Path.{◌≡◌, refl, subst, ap, ap₂, ◌∙◌}
-use mathlib.Core.Bool.{Bool, true, false, cond, not, ◌&&◌, ◌||◌}
+use mathlib.Core.Bool.{Bool, true, false, cond, not, ◌&&◌, ◌||◌, and-false}
 use mathlib.Core.Logic.{◌⊎◌, inl, inr, ⊎_elim, ◌↔◌}
 use Prim.Native.Nat.{ℕ}
 use native.Mathlib.Omega.{arith}
 use borrow.Author.Tests.{eqb-true, eq-eqb}
+use Rattle.std.proofs.lemmas.Bool.{true≢false}
 use lib.Dec.{T, eqb}
 use lib.IntN.{ℤ, pos}
 use lib.Signed.{le_z, ◌≤ℤ◌, ◌<ℤ◌, le_z_yes, clash_ℤ}
 use Rattle.integers.proofs.Certificates.{split<}
 use Rattle.integers.proofs.Laws.{same_test}
-use Rattle.integers.proofs.Branches.{picks_yes, picks_no}
+use Rattle.std.proofs.lemmas.Bool.{cond-true, cond-false}
 use Rattle.advisory.specs.declared.Instruction.{Instruction}
 use Rattle.advisory.specs.Catalogue.{article_entries, not_judged, catalogue_of}
 use Rattle.advisory.specs.ReactionTable.{reaction_table}
@@ -41,25 +42,18 @@ pub record OnlySeventeen (code : ℕ) (v limit : ℤ) : Type 0 where
   pub otherwise : ¬ (coded_question code v limit ≡ Err Refusal.NeverIssued) → coded_question code v limit ≡ earlier_question code v limit
 
 -- ---- the test, by its parts
-differ : ¬ (true ≡ false)
-differ e = subst T e tt
-
 either : (a b c d : Bool) → (not a || b) && (not c || d) ≡ false → ((a ≡ true) × (b ≡ false)) ⊎ ((c ≡ true) × (d ≡ false))
 either true false c d e = inl (refl, refl)
 either true true true false e = inr (refl, refl)
-either true true true true e = absurd (differ e)
-either true true false d e = absurd (differ e)
+either true true true true e = absurd (true≢false e)
+either true true false d e = absurd (true≢false e)
 either false b true false e = inr (refl, refl)
-either false b true true e = absurd (differ e)
-either false b false d e = absurd (differ e)
+either false b true true e = absurd (true≢false e)
+either false b false d e = absurd (true≢false e)
 
 fails : (a b c d : Bool) → ((a ≡ true) × (b ≡ false)) ⊎ ((c ≡ true) × (d ≡ false)) → (not a || b) && (not c || d) ≡ false
 fails a b c d (inl h) = ap₂ (λ (a b : Bool). (not a || b) && (not c || d)) h.0 h.1
-fails a b c d (inr h) = ap₂ (λ (c d : Bool). (not a || b) && (not c || d)) h.0 h.1 ∙ last (not a || b)
-  where
-    last : (t : Bool) → t && false ≡ false
-    last true = refl
-    last false = refl
+fails a b c d (inr h) = ap₂ (λ (c d : Bool). (not a || b) && (not c || d)) h.0 h.1 ∙ and-false (not a || b)
 
 below : {a b : ℤ} → le_z a b ≡ false → b <ℤ a
 below {a} {b} e = ⊎_elim (λ h. h) (λ (h : a ≤ℤ b). absurd (subst T e h.le)) (split< b a)
@@ -101,7 +95,7 @@ module _ (code : ℕ) (v : ℤ) where
     asked_17 (Err CodeError.Unknown) e = absurd (let z : ◌≡◌ {A = ℕ} 8 17 = cc in omega arith)
 
     as_before : (a : Result Instruction CodeError) → maintainable code v ≡ true → asked code a v limit ≡ earlier_asked a v limit
-    as_before (Ok i) e = picks_yes _ _ _ e
+    as_before (Ok i) e = cond-true _ _ _ e
     as_before (Err CodeError.NotJudged) e = refl
     as_before (Err CodeError.Unknown) e = refl
 
@@ -109,7 +103,7 @@ module _ (code : ℕ) (v : ℤ) where
     unfolding coded_question
     now_17 n =
         let l = listed n in
-        ap (λ (a : Result Instruction CodeError). asked code a v limit) l.1 ∙ picks_no _ _ _ (never_issued.1 n)
+        ap (λ (a : Result Instruction CodeError). asked code a v limit) l.1 ∙ cond-false _ _ _ (never_issued.1 n)
 
     pub only_17 : OnlySeventeen code v limit
     unfolding coded_question earlier_question

@@ -1,1 +1,2 @@
 pub mod EarlierCodes
+pub mod SenseNumbers

@@ -4,18 +4,16 @@
 ghost use Rattle.std.specs.Prelude.{◌≡◌};
 ghost use Rattle.advisory.specs.Catalogue.{rate_of};
 ghost use Rattle.advisory.specs.inner.Codes.{InLimits};
+ghost use Rattle.question.specs.OneSided.{asked};
 ghost use Rattle.coded.specs.Coded.{sense_number, instructed, maintainable, coded_question};
 
 use advisory::{Instruction, Sense, Target, advise};
-use question::{Question, Refusal};
+use question::{OneSidedAdvice, Question, Refusal};
 
 fn sense_number(sense: Sense) -> i64
     ensures { result ≡ sense_number sense }
 {
-    match sense {
-        Sense::Descend => 0,
-        Sense::Climb => 1,
-    }
+    i64::from(sense as u8)
 }
 
 // The target as a number, for an ownship of speed v.
@@ -28,20 +26,15 @@ fn target_rate(target: Target, v: i64) -> i64
     }
 }
 
-// An instruction as a one-sided free question, for an ownship of speed v.
-fn instructed(i: Instruction, v: i64, limit: i64) -> Question
+// An instruction as a one-sided advice, for an ownship of speed v. It is no `From`, as the speed and the limit are no part of an instruction.
+fn instructed(i: Instruction, v: i64, limit: i64) -> OneSidedAdvice
     requires { InLimits i }
-    ensures { result ≡ instructed i v limit }
+    ensures { asked result ≡ instructed i v limit }
 {
-    let sense = i.sense;
-    let target = i.target;
-    Question {
-        sides: 1,
-        sense: sense_number(sense),
-        target: target_rate(target, v),
-        upper_target: 0,
+    OneSidedAdvice {
+        sense: sense_number(i.sense),
+        target: target_rate(i.target, v),
         strength: i.strength as i64,
-        upper_strength: 0,
         delay: i.delay as i64,
         limit,
     }
@@ -55,7 +48,7 @@ fn maintainable(code: u8, v: i64) -> bool
 }
 
 // A question by code as a free one: refusal 17 for a speed that can't be maintained, 9 for codes that are not judged, 8 for unknown ones.
-#[tactic(auto, unfolding(crate::specs::Coded::coded_question))]
+#[tactic(auto, using(advisory::proofs::Limits::in_limits), unfolding(crate::specs::Coded::coded_question))]
 pub fn coded_question(code: u8, v: i64, limit: i64) -> Result<Question, Refusal>
     ensures { result ≡ coded_question code v limit }
 {
@@ -63,5 +56,5 @@ pub fn coded_question(code: u8, v: i64, limit: i64) -> Result<Question, Refusal>
     if !maintainable(code, v) {
         return Err(Refusal::NeverIssued);
     }
-    Ok(instructed(instruction, v, limit))
+    Ok(Question::from(instructed(instruction, v, limit)))
 }

@@ -37,19 +37,19 @@ divided Lower h x h' x' i p f = one_order h x h' x' i p f
 divided Upper h x h' x' i p f = one_order x h x' h' i p (modulo (negsuc 0) f (ring (i ∷ []) (h ∷ x ∷ h' ∷ x' ∷ []) (λ v. search quote depth 20) tt))
 
 -- ---- the rule's two branches
-module _ (side : Side) (rule : AdviceRule) (n m : ℕ) where
+module _ (rule : AdviceRule) (n m : ℕ) where
   abbrev gain : ℤ
   gain = advice_gain rule.strength rule.target rule.speed n m
 
-  pub arc_divided : 0 < rule.strength → rule.strength * n < missing rule * m → arc_not_beyond side rule n m ≡ rule_not_beyond side rule n m
+  pub arc_divided : 0 < rule.strength → rule.strength * n < missing rule * m → arc_not_beyond rule n m ≡ rule_not_beyond rule n m
   arc_divided p l =
-      divided side _ _ _ _ rule.strength p
+      divided rule.side _ _ _ _ rule.strength p
       (modulo (negsuc 0) (gain_arc rule.strength n m rule.target rule.speed p (omega arith))
       (ring (rule.strength ∷ n ∷ m ∷ []) (rule.speed ∷ rule.edge ∷ gain ∷ []) (λ v. search quote depth 20) tt))
 
-  pub straight_divided : 0 < m → missing rule * m ≤ rule.strength * n → straight_not_beyond side rule n m ≡ rule_not_beyond side rule n m
+  pub straight_divided : 0 < m → missing rule * m ≤ rule.strength * n → straight_not_beyond rule n m ≡ rule_not_beyond rule n m
   straight_divided p l =
-      divided side _ _ _ _ m p
+      divided rule.side _ _ _ _ m p
       (modulo (negsuc 0) (gain_straight rule.strength n m rule.target rule.speed l)
       (ring (rule.strength ∷ n ∷ m ∷ missing rule ∷ []) (rule.target ∷ rule.edge ∷ gain ∷ []) (λ v. search quote depth 20) tt))
 
@@ -82,7 +82,7 @@ unfolding not_beyond
 delay_divided Lower s n m z l = delayed Lower (a s) (d s) (bend Lower s) (u s) (q s) (u_d s) (edge_height Lower s) n m z.a_lo l
 delay_divided Upper s n m z l = delayed Upper (b s) (d s) (bend Upper s) (u s) (upper_target s) (speed_reached s) (edge_height Upper s) n m z.1.b_lo l
 
-pub rule_divided : (side : Side) (s : SensedQuestion) (n m : ℕ) → d s * m ≤ n → rule_not_beyond side (rule_of side s) (n - d s * m) m ≡ not_beyond side s n m
+pub rule_divided : (side : Side) (s : SensedQuestion) (n m : ℕ) → d s * m ≤ n → rule_not_beyond (rule_of side s) (n - d s * m) m ≡ not_beyond side s n m
 unfolding not_beyond
 rule_divided Lower s n m l = ruled Lower (a s) (d s) (bend Lower s) (u s) (q s) (u_d s) (edge_height Lower s) n m l
 rule_divided Upper s n m l = ruled Upper (b s) (d s) (bend Upper s) (u s) (upper_target s) (speed_reached s) (edge_height Upper s) n m l

@@ -1,10 +1,13 @@
 -- The bounds of a question's and a rule's numbers, as rules for `search`. Assumes nothing.
-use mathlib.Core.Path.{◌≡◌, refl, sym, ap, ap₂, ◌∙◌}
+use mathlib.Core.Path.{◌≡◌, refl, ap, ap₂, ◌∙◌}
+use mathlib.Core.Bool.{◌&&◌}
 use mathlib.Core.List.{[], ◌∷◌}
+use mathlib.Core.Logic.{inl, inr}
 use Prim.Native.Nat.{ℕ, ◌+◌, ◌*◌, ◌<◌, ◌≤◌}
 use native.Mathlib.Nat.{mul-le-mul}
 use native.Mathlib.Omega.{arith}
 use lib.Dec.{T, lit≤}
+use lib.Ieee.Fits.{and_l, and_r}
 use lib.IntN.{ℤ, pos, negsuc, ◌+ℤ◌, ◌-ℤ◌, ◌*ℤ◌, nat_abs}
 use lib.Signed.{le_z}
 use mir.Syntax.{w64}
@@ -13,12 +16,12 @@ use mir.Facts.{to_z-of_z}
 use Rattle.limits.specs.Limits.{max_height, max_closing_speed, max_half_height, max_strength, max_delay_acceleration, max_delay}
 use Rattle.std.specs.Int.{int_max}
 use Rattle.std.proofs.lemmas.Bool.Decides.{nat_tests}
-use Rattle.integers.specs.Extremes.{max0, maxℤ}
+use Rattle.integers.specs.Extremes.{maxℤ}
 use Rattle.integers.proofs.Difference.{cond_by}
 use Rattle.integers.proofs.Quotation.{quote}
 use Rattle.integers.proofs.Certificates.{ring, by≤, gap≤}
-use Rattle.integers.proofs.Laws.{maxℤ_above, nat_abs_in}
-use Rattle.integers.proofs.Machine.{Reading, bounded, bounded_natural, bounded_word, bounded_absolute, unbounded, equal_to, plain_terms}
+use Rattle.integers.proofs.Laws.{max0_size, maxℤ_above, nat_abs_in}
+use Rattle.integers.proofs.Machine.{Reading, Plain, bounded, bounded_natural, bounded_word, bounded_absolute, unbounded, equal_to, plain_terms}
 use Rattle.path.specs.declared.SensedQuestion.{SensedQuestion}
 use Rattle.path.specs.declared.Side.{Side}
 use Rattle.path.specs.declared.Side.TheVariants.{Lower, Upper}
@@ -26,7 +29,7 @@ use Rattle.path.specs.declared.side_question.SideQuestion.{SideQuestion}
 use Rattle.path.specs.declared.sized_question.SizedQuestion.{SizedQuestion}
 use Rattle.path.specs.Letters.{k, wh, u, q, d, e, upper_q}
 use Rattle.path.specs.Paths.{delay_height, u_d, speed_reached, upper_target}
-use Rattle.path.specs.inner.Sizes.{max_speed_difference, max_speed_after_delay, Sizes, Sized, farthest, InReach}
+use Rattle.path.specs.inner.Sizes.{max_speed_difference, max_speed_after_delay, Sizes, Sized, farthest, Compared}
 use Rattle.window.proofs.Fields.{read_n, read_m, size}
 use Rattle.conflict.specs.declared.AdviceRule.{AdviceRule}
 use Rattle.conflict.specs.inner.Divided.{height_not_beyond, bend, speed_after_delay, edge_height, target_of, rule_edge, rule_of, missing}
@@ -35,18 +38,6 @@ use Rattle.conflict.specs.inner.RuleSizes.{most_start, most_edge, RuleSizes, mos
 -- ---- a call's result, which fits and equals t; no bound is known
 abbrev pub read_call : {x t : ℤ} → SFits w64 x → x ≡ t → Reading (to_z w64 (of_z w64 x))
 read_call {x} {t} f h = equal_to (to_z-of_z f ∙ h) (unbounded t)
-
--- ---- an instant of the lower side is one of the upper
-lower_in_upper : {n m : ℕ} → InReach Lower n m → InReach Upper n m
-lower_in_upper h = record { n_hi = omega (arith, h.n_hi); m_lo = h.m_lo; m_hi = h.m_hi }
-
-pub upper_reach : (side : Side) {n m : ℕ} → InReach side n m → InReach Upper n m
-upper_reach Lower h = lower_in_upper h
-upper_reach Upper h = h
-
-pub side_reach : (side : Side) {n m : ℕ} → InReach Lower n m → InReach side n m
-side_reach Lower h = h
-side_reach Upper h = lower_in_upper h
 
 -- ---- a question
 module _ (s : SensedQuestion) (z : Sizes s) where
@@ -82,20 +73,22 @@ module _ (rule : AdviceRule) (z : RuleSizes rule) where
   abbrev pub read_rule_edge : Reading rule.edge
   read_rule_edge = bounded_absolute rule.edge most_edge z.edge_hi
 
--- a rule is its four numbers
-pub same_rule : {a a' : ℕ} {q q' x x' i i' : ℤ} → a ≡ a' → q ≡ q' → x ≡ x' → i ≡ i' → ◌≡◌ {A = AdviceRule} (record { strength = a; target = q; speed = x; edge = i }) (record { strength = a'; target = q'; speed = x'; edge = i' })
+-- a side's rule is its four numbers
+pub same_rule : {side : Side} {a a' : ℕ} {q q' x x' i i' : ℤ} → a ≡ a' → q ≡ q' → x ≡ x' → i ≡ i' → ◌≡◌ {A = AdviceRule} (record { side = side; strength = a; target = q; speed = x; edge = i }) (record { side = side; strength = a'; target = q'; speed = x'; edge = i' })
 same_rule f g h k = cc
 
--- the comparison of a side that is known
-pub lower_comparison : {side : Side} (height edge : ℤ) → side ≡ Lower → le_z height edge ≡ height_not_beyond side height edge
-lower_comparison height edge is = ap (λ (side : Side). height_not_beyond side height edge) (sym is)
+-- a side's comparison of two numbers that the code reads
+module _ (side : Side) {s t : ℤ} (x : Reading s) (y : Reading t) where
+  pub comparison_is : T (x.guard && y.guard) → height_not_beyond side s t ≡ height_not_beyond side x.number y.number
+  comparison_is g = ap₂ (height_not_beyond side) (x.is (and_l x.guard y.guard g)) (y.is (and_r x.guard y.guard g))
 
-pub upper_comparison : {side : Side} (height edge : ℤ) → side ≡ Upper → le_z edge height ≡ height_not_beyond side height edge
-upper_comparison height edge is = ap (λ (side : Side). height_not_beyond side height edge) (sym is)
+abbrev pub plain_comparison : (side : Side) {s t : ℤ} → Reading s → Reading t → Plain (height_not_beyond side s t)
+plain_comparison side x y = record { value = height_not_beyond side x.number y.number; guard = x.guard && y.guard; is = comparison_is side x y }
 
 -- `search numbers` finds the reading of a machine term, where the sizes of its question or rule and the reach of its instant are in scope
 pub ruleset numbers = (
   plain_terms,
+  plain_comparison,
   read_n,
   read_m,
   read_half_height,
@@ -202,10 +195,6 @@ rule_sizes Upper s z = record {
 }
 
 -- ---- the missing speed
-max0_size : (z : ℤ) → max0 z ≤ nat_abs z
-max0_size (pos n) = omega arith
-max0_size (negsuc n) = omega arith
-
 pub missing_size : (rule : AdviceRule) → RuleSizes rule → missing rule ≤ most_missing Lower
 missing_size rule z = omega (arith, max0_size (rule.target -ℤ rule.speed), size (rule.target -ℤ rule.speed) (search numbers depth 20) tt)
 
@@ -214,11 +203,18 @@ missing_most Lower s z = missing_size (rule_of Lower s) (rule_sizes Lower s z)
 missing_most Upper s z = maxℤ_above (upper_q s) (speed_reached s) max_speed_difference (by≤ (e s ∷ d s ∷ []) (u s ∷ upper_q s ∷ []) (gap≤ z.1.change) (λ v. search quote depth 20) tt)
 
 -- ---- an arc: its strength times n is below the missing speed times m
+missing_most_lower : (side : Side) → most_missing side ≤ most_missing Lower
+missing_most_lower Lower = lit≤ tt
+missing_most_lower Upper = lit≤ tt
+
 most_bend_lem : (side : Side) → most_missing side * max_closing_speed * farthest side ≤ most_bend
 most_bend_lem Lower = lit≤ tt
 most_bend_lem Upper = lit≤ tt
 
-pub bend_size : (side : Side) (g i n m : ℕ) → g ≤ most_missing side → InReach side n m → i < g * m → i * n ≤ most_bend
-bend_size side g i n m z h l =
+pub bend_size : (side : Side) (g i n m : ℕ) → g ≤ most_missing side → Compared side n m → i < g * m → i * n ≤ most_bend
+bend_size side g i n m z (inl h) l =
     let x : i ≤ most_missing side * max_closing_speed = omega (arith, mul-le-mul z h.m_hi) in
     omega (arith, mul-le-mul x h.n_hi, most_bend_lem side)
+bend_size side g i n m z (inr (h, e)) l =
+    let x : i ≤ most_missing Lower = omega (arith, l, ap (λ (x : ℕ). g * x) e, missing_most_lower side, z) in
+    omega (arith, mul-le-mul x h.n_hi)

@@ -3,7 +3,8 @@
 // `path` compares heights times 2·a·m², up to 4.4e19, which 64 bits don't hold. So each comparison here has a factor that its two sides share divided out:
 // an arc stands times 2·m², a straight times 2·a·m. Locals bear document 01's letters (`path`, specs/Letters.antt).
 //
-// That an instant is in reach is a clause: a type for it would be built at each call, and proved there all the same.
+// That an instant is in reach is a clause: a type for it would be built at each call, and proved there all the same. Nor are question and instant one argument:
+// a question is asked at several instants, so a pair of them would be taken apart to keep the question.
 #![tactic(auto)]
 
 ghost use Rattle.std.specs.Prelude.{◌≡◌, ◌*◌, ◌≤◌, ◌-ℤ◌, nat_abs};
@@ -12,8 +13,8 @@ ghost use Rattle.path.specs.declared.Side.TheVariants.{Lower, Upper};
 ghost use Rattle.path.specs.Letters.{u};
 ghost use Rattle.path.specs.Paths.{delay_height};
 ghost use Rattle.path.specs.inner.Tests.{not_beyond};
-ghost use Rattle.path.specs.inner.Sizes.{InReach};
-ghost use Rattle.conflict.specs.inner.Divided.{bend, speed_after_delay, edge_height, delay_not_beyond, strength_of, target_of, rule_of, rule_not_beyond, missing, arc_not_beyond, straight_not_beyond};
+ghost use Rattle.path.specs.inner.Sizes.{Compared, InReach};
+ghost use Rattle.conflict.specs.inner.Divided.{bend, speed_after_delay, edge_height, height_not_beyond, delay_not_beyond, strength_of, target_of, rule_of, rule_not_beyond, missing, arc_not_beyond, straight_not_beyond};
 ghost use Rattle.conflict.specs.inner.RuleSizes.{RuleSizes, most_missing, most_bend};
 ghost use Rattle.conflict.specs.inner.DifferenceRange.{max_operand};
 
@@ -89,6 +90,17 @@ fn edge_height(asked: SideQuestion) -> i64
     }
 }
 
+// Is a height not strictly beyond the puck's edge? Lower, it is at the edge or below; upper, at it or above.
+#[inline(always)]
+fn height_not_beyond(side: Side, height: i64, edge: i64) -> bool
+    ensures { result ≡ height_not_beyond side height edge }
+{
+    match side {
+        Side::Lower => height <= edge,
+        Side::Upper => edge <= height,
+    }
+}
+
 // The delay against the puck's edge.
 fn delay_not_beyond(asked: SideQuestion, t: Instant) -> bool
     requires { InReach Lower t.n t.m }
@@ -98,15 +110,13 @@ fn delay_not_beyond(asked: SideQuestion, t: Instant) -> bool
     let height = delay_height(asked, t);
     let m = t.m as i64;
     let edge = 2 * m * m * edge;
-    match asked.side {
-        Side::Lower => height <= edge,
-        Side::Upper => edge <= height,
-    }
+    height_not_beyond(asked.side, height, edge)
 }
 
-// An advice rule from any height and speed on, so that one comparison serves both sides. (Its sizes are a clause: `rule_of` makes rules of any question.)
+// An advice rule from any height and speed on, and the side that it is asked for. (Its sizes are a clause: `rule_of` makes rules of any question.)
 #[derive(Clone, Copy)]
 struct AdviceRule {
+    side: Side,
     strength: u64,
     target: i64,
     // The speed where the rule begins.
@@ -124,6 +134,7 @@ fn advice_rule(asked: SideQuestion) -> AdviceRule
     let u = asked.question.sensed.speed;
     let d = asked.question.sensed.delay as i64;
     AdviceRule {
+        side: asked.side,
         strength: rule_strength(asked),
         target: rule_target(asked),
         speed,
@@ -140,80 +151,76 @@ pub fn positive_difference(q: i64, u: i64) -> u64
     ((q - u) * ((0 < q - u) as i64)) as u64
 }
 
-// G, the speed that is missing; none where the speed exceeds the target, as the path then takes the target at once.
-fn missing_speed(rule: AdviceRule) -> u64
-    requires { RuleSizes rule }
-    ensures { result ≡ missing rule }
-{
-    positive_difference(rule.target, rule.speed)
-}
-
-// While the speed still changes: a·n is below G·m then, which keeps a·n² small. (The instants of both sides are in the upper one's reach.)
-fn arc_not_beyond(side: Side, rule: AdviceRule, since: Instant) -> bool
-    requires rule_sizes { RuleSizes rule }
-    requires in_reach { InReach Upper since.n since.m }
-    requires before_straight { rule.strength * since.n * since.n ≤ most_bend }
-    ensures { result ≡ arc_not_beyond side rule since.n since.m }
-{
-    let a = rule.strength;
-    let u = rule.speed;
-    let bend = (a * since.n * since.n) as i64;
-    let n = since.n as i64;
-    let m = since.m as i64;
-    let arc = 2 * u * n * m + bend;
-    let edge = m * m * rule.edge;
-    match side {
-        Side::Lower => arc <= edge,
-        Side::Upper => edge <= arc,
+impl AdviceRule {
+    // G, the speed that is missing; none where the speed exceeds the target, as the path then takes the target at once. (`pieces` says why it has its own.)
+    #[inline(always)]
+    fn missing_speed(self) -> u64
+        requires { RuleSizes self }
+        ensures { result ≡ missing self }
+    {
+        positive_difference(self.target, self.speed)
     }
-}
 
-// Once the speed is the target.
-fn straight_not_beyond(side: Side, rule: AdviceRule, gap: u64, since: Instant) -> bool
-    requires rule_sizes { RuleSizes rule }
-    requires in_reach { InReach Upper since.n since.m }
-    requires gap_missing { gap ≡ missing rule }
-    ensures { result ≡ straight_not_beyond side rule since.n since.m }
-{
-    let q = rule.target;
-    let run = (rule.strength * since.n) as i64;
-    let a = rule.strength as i64;
-    let g = gap as i64;
-    let m = since.m as i64;
-    let straight = 2 * q * run - g * g * m;
-    let edge = a * m * rule.edge;
-    match side {
-        Side::Lower => straight <= edge,
-        Side::Upper => edge <= straight,
+    // While the speed still changes: a·n is below G·m then, which keeps a·n² small. (The instants of both sides are in the upper one's reach.)
+    #[inline(always)]
+    fn arc_not_beyond(self, since: Instant) -> bool
+        requires rule_sizes { RuleSizes self }
+        requires in_reach { InReach Upper since.n since.m }
+        requires before_straight { self.strength * since.n * since.n ≤ most_bend }
+        ensures { result ≡ arc_not_beyond self since.n since.m }
+    {
+        let a = self.strength;
+        let u = self.speed;
+        let bend = (a * since.n * since.n) as i64;
+        let n = since.n as i64;
+        let m = since.m as i64;
+        let arc = 2 * u * n * m + bend;
+        let edge = m * m * self.edge;
+        height_not_beyond(self.side, arc, edge)
     }
-}
 
-// The rule a time after it begins.
-fn rule_not_beyond(side: Side, rule: AdviceRule, since: Instant) -> bool
-    requires rule_sizes { RuleSizes rule }
-    requires missing_within { missing rule ≤ most_missing side }
-    requires in_reach { InReach side since.n since.m }
-    ensures { result ≡ rule_not_beyond side rule since.n since.m }
-{
-    let gap = missing_speed(rule);
-    if rule.strength * since.n < gap * since.m {
-        return arc_not_beyond(side, rule, since);
+    // Once the speed is the target.
+    #[inline(always)]
+    fn straight_not_beyond(self, gap: u64, since: Instant) -> bool
+        requires rule_sizes { RuleSizes self }
+        requires in_reach { InReach Upper since.n since.m }
+        requires gap_missing { gap ≡ missing self }
+        ensures { result ≡ straight_not_beyond self since.n since.m }
+    {
+        let q = self.target;
+        let run = (self.strength * since.n) as i64;
+        let a = self.strength as i64;
+        let g = gap as i64;
+        let m = since.m as i64;
+        let straight = 2 * q * run - g * g * m;
+        let edge = a * m * self.edge;
+        height_not_beyond(self.side, straight, edge)
     }
-    straight_not_beyond(side, rule, gap, since)
+
+    // Is the path not beyond the edge, a time after the rule begins?
+    #[inline(always)]
+    fn not_beyond(self, since: Instant) -> bool
+        requires rule_sizes { RuleSizes self }
+        requires missing_within { missing self ≤ most_missing self.side }
+        requires in_reach { Compared self.side since.n since.m }
+        ensures { result ≡ rule_not_beyond self since.n since.m }
+    {
+        let gap = self.missing_speed();
+        if self.strength * since.n < gap * since.m {
+            return self.arc_not_beyond(since);
+        }
+        self.straight_not_beyond(gap, since)
+    }
 }
 
 // Is a side's path "not strictly beyond" the puck's edge at an instant? Up to d the delay says, then the rule.
 pub fn not_beyond(asked: SideQuestion, t: Instant) -> bool
-    requires { InReach asked.side t.n t.m }
+    requires { Compared asked.side t.n t.m }
     ensures { result ≡ not_beyond asked.side asked.question.sensed t.n t.m }
 {
     let end = asked.question.sensed.delay * t.m;
     if t.n <= end {
         return delay_not_beyond(asked, t);
     }
-    let since = Instant {
-        n: t.n - end,
-        m: t.m,
-    };
-    rule_not_beyond(asked.side, advice_rule(asked), since)
+    advice_rule(asked).not_beyond(Instant { n: t.n - end, ..t })
 }

@@ -4,7 +4,6 @@ use mathlib.Core.Path.{◌≡◌, refl, sym, ap, subst, ◌∙◌}
 use mathlib.Core.Bool.{Bool, true, false}
 use mathlib.Core.List.{List}
 use Prim.Native.Nat.{ℕ}
-use lib.Dec.{T}
 use lib.IntN.{ℤ}
 use Rattle.path.specs.declared.SensedQuestion.{SensedQuestion}
 use Rattle.question.specs.declared.Encounter.{Encounter}
@@ -20,12 +19,12 @@ use Rattle.judge.proofs.Demand3.{judged}
 use Rattle.flight.specs.declared.Stretch.{Stretch}
 use Rattle.flight.specs.HandedIn.{flight_of}
 use Rattle.flight.specs.inner.Tests.{obeys_test, first_inside}
-use Rattle.flight.proofs.Decides.{decided_yes}
 use Rattle.flight.proofs.ObeyingTests.{obeys_decided}
 use Rattle.flight.proofs.InsideTests.{right_entry}
 use Rattle.flight.proofs.ClearVerdict.{accepted_half_height, clear_never_inside}
 use Rattle.candidate.specs.declared.OneSidedAdvice.{OneSidedAdvice}
-use Rattle.candidate.specs.Advice.{asked, flight_refusal}
+use Rattle.question.specs.OneSided.{asked}
+use Rattle.candidate.specs.Advice.{flight_refusal}
 use Rattle.candidate.specs.FlightAnswers.{yes_number, advice_in_sense, flight_in_sense, checked_flight, flight_answer}
 use Rattle.candidate.proofs.RefusedAsAsked.{accepted_flight}
 use Rattle.binding.specs.declared.FlightResult.{FlightResult}
@@ -73,7 +72,7 @@ module _ (x : Encounter) (y : Settings) (z : OneSidedAdvice) (l : List ℤ) wher
       obeys_test s f,
       first_inside s f,
       ap (numbered_flight s f) e,
-      (λ t. (obeys_decided s f).yes (subst T (sym t) tt), λ o. decided_yes (obeys_decided s f) o),
+      obeys_decided s f,
       right_entry s f (accepted_half_height x y (asked z) (accepted_flight x y z l e).0),
     );
   }
@@ -93,7 +92,7 @@ module _ (x : Encounter) (y : Settings) (z : OneSidedAdvice) (l : List ℤ) wher
         let a = accepting flown e in
         let accepted = (accepted_flight x y z l a.accepted).0 in
         let same : verdict (asked z) s ≡ Clear sides = said (verdict (asked z) s) sides (sym (judged x y (asked z) accepted) ∙ clear) in
-        clear_never_inside x y (asked z) accepted refl (not_conflict (verdict (asked z) s) sides same) (flight_of l) ((obeys_decided s f).yes (subst T (sym (a.obeys ∙ obeying)) tt));
+        clear_never_inside x y (asked z) accepted refl (not_conflict (verdict (asked z) s) sides same) (flight_of l) ((obeys_decided s f).0 (a.obeys ∙ obeying));
   }
 
   pub kept_out : (q : Question) (r : Result Verdict Refusal) (t : Result Flown Refusal) → q ≡ asked z → r ≡ answer x y q → t ≡ flight_answer x y z l → ClearKeepsOut x y z l r t

@@ -6,7 +6,7 @@ use Prim.Native.Nat.{ℕ, ◌<◌}
 use native.Mathlib.Omega.{arith}
 use borrow.Author.Tests.{ne_eqb}
 use lib.Dec.{eqb}
-use Rattle.integers.proofs.Branches.{picks_no}
+use Rattle.std.proofs.lemmas.Bool.{cond-false}
 use Rattle.question.specs.declared.refusal.Refusal.{Refusal}
 use Rattle.question.specs.RefusalNumbers.{refusal_number}
 
@@ -31,4 +31,4 @@ number_above Refusal.NeverIssued = omega arith
 number_above Refusal.FlightOutside = omega arith
 
 pub number_held : {A : Type 0} (why : Refusal) (other : Result A ℕ) → cond (eqb (refusal_number why) 0) other (Err (refusal_number why)) ≡ Err (refusal_number why)
-number_held why other = picks_no _ _ _ (ne_eqb (refusal_number why) 0 (omega (arith, number_above why)))
+number_held why other = cond-false _ _ _ (ne_eqb (refusal_number why) 0 (omega (arith, number_above why)))

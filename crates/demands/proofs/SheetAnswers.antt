@@ -4,7 +4,7 @@ use mathlib.Core.Path.{◌≡◌, refl, sym, ap, subst, ◌∙◌}
 use mathlib.Core.Bool.{Bool, false}
 use mathlib.Core.List.{List, ◌∷◌, ◌++◌}
 use Prim.Native.Nat.{ℕ, ◌<◌}
-use borrow.Author.Tests.{le-leb, lt-leb}
+use borrow.Author.Tests.{le-leb}
 use lib.Dec.{T}
 use lib.Ieee.Bits.{is_true}
 use lib.IntN.{ℤ}
@@ -16,11 +16,12 @@ use Rattle.limits.specs.Limits.{no_limit}
 use Rattle.question.specs.Refusals.{encounter_within, puck_within, delay_acceleration_within}
 use Rattle.coded.specs.Coded.{coded_question}
 use Rattle.coded.proofs.EarlierCodes.{issued}
-use Rattle.integers.proofs.Branches.{picks_yes, picks_no}
+use Rattle.std.proofs.lemmas.Bool.{cond-true}
 use Rattle.judge.specs.Answers.{answer, answer_record}
 use Rattle.record.specs.declared.Record.{Record}
 use Rattle.record.specs.Records.{records}
-use Rattle.record.specs.SheetCheck.{longest_sheet, sheet_check}
+use Rattle.program.proofs.ReadEnough.{too_long}
+use Rattle.record.specs.SheetCheck.{longest_sheet}
 use Rattle.reply.specs.AnswerBytes.{reply_bytes}
 use Rattle.answering.specs.declared.State.{State}
 use Rattle.answering.specs.States as states
@@ -140,9 +141,6 @@ each sheet earlier given later here = record {
 }
 
 -- ---- the whole sheet
-pub too_long_check : (sheet : List ℕ) → longest_sheet < length sheet → sheet_check sheet ≡ Err Refusal.SheetTooLong
-too_long_check sheet h = picks_no _ _ _ (lt-leb (length sheet) longest_sheet h)
-
 -- the area by the outcome's number: none of a refusal changes it, and an answer of so many bytes is written
 area_kept : (o : Result ℕ Refusal) (answered area : List ℕ) (number : ℕ) → with_number o ≡ Err number → area_for o answered area ≡ area
 area_kept (Ok size) answered area number e = cc
@@ -157,8 +155,8 @@ numbered o = with_number o
 
 pub sheet_answered : (sheet area : List ℕ) → SheetAnswered sheet area (area_after sheet area) (with_number (outcome sheet (length area)))
 sheet_answered sheet area = record {
-  too_long = λ h. ap numbered (refused_in_any_area sheet Refusal.SheetTooLong (too_long_check sheet h) (length area));
-  faulty = λ h why e. ap numbered (refused_in_any_area sheet why (picks_yes _ _ _ (le-leb (length sheet) longest_sheet h) ∙ e) (length area));
+  too_long = λ h. ap numbered (refused_in_any_area sheet Refusal.SheetTooLong (too_long sheet h) (length area));
+  faulty = λ h why e. ap numbered (refused_in_any_area sheet why (cond-true _ _ _ (le-leb (length sheet) longest_sheet h) ∙ e) (length area));
   too_short = λ e h. ap numbered (too_short sheet (length area) e h);
   accepted = λ e h. ap numbered (long_enough sheet (length area) e h);
   unchanged = area_kept (outcome sheet (length area)) (sheet_answer sheet) area;

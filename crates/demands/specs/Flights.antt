@@ -11,7 +11,8 @@ use Rattle.flight.specs.Obeying.{Obeys}
 use Rattle.flight.specs.Inside.{RightEntry, NeverInside}
 use Rattle.flight.proofs.FlightExamples as examples
 use Rattle.candidate.specs.declared.OneSidedAdvice.{OneSidedAdvice}
-use Rattle.candidate.specs.Advice.{asked, advice_checks, flight_refusal}
+use Rattle.question.specs.OneSided.{asked}
+use Rattle.candidate.specs.Advice.{advice_checks, flight_refusal}
 use Rattle.candidate.specs.FlightAnswers.{advice_in_sense, flight_in_sense}
 use Rattle.candidate.proofs.RefusedAsAsked as advice
 use Rattle.binding.specs.declared.FlightResult.{FlightResult}

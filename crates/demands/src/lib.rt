@@ -16,7 +16,7 @@ use binding::{
     DrawingResult, FlightResult, JudgeResult, PointResult, SheetResult, answer_sheet_bytes,
     judge_plain,
 };
-use candidate::{Flown, OneSidedAdvice, asked};
+use candidate::{Flown, OneSidedAdvice};
 use conflict::positive_difference;
 use judge::judge;
 use program::{Output, program_output};
@@ -157,7 +157,7 @@ pub fn flight_and_verdict_demanded(
 ) -> BothAnswers
     ensures { ClearKeepsOut encounter settings advice flight.now result.judged result.flown }
 {
-    let question = asked(advice);
+    let question = Question::from(advice);
     let judged = judge(encounter, settings, question);
     let flown = candidate::judge_flight(encounter, settings, advice, flight);
     BothAnswers { judged, flown }

@@ -18,7 +18,8 @@ const CASE: usize = 55;
 // 256 cases, and a first line of 600 bytes.
 const ROOM: usize = 113240;
 
-// A piece's numbers; of a float its bit pattern, none where it is no number.
+// What is held against a case is what C and Rust get: `binding`'s structs, with their numbers for kinds and refusals. A piece, a drawing and a point are those structs
+// here, with each float by its bit pattern, none where it is no number: by `==` of floats 0 and −0 would be one.
 #[derive(Clone, Copy, PartialEq, Eq)]
 struct Piece {
     kind: u64,
@@ -47,7 +48,7 @@ struct Point {
 }
 
 // Of a case's four points those that differ, those drawn, and those refused.
-#[derive(Clone, Copy)]
+#[derive(Clone, Copy, Default)]
 struct Points {
     different: u64,
     drawn: u64,
@@ -133,19 +134,6 @@ impl From<PointResult> for Point {
     }
 }
 
-fn drawing_of(case: &[u64; CASE]) -> DrawingResult {
-    screen_drawing(encounter_in(case), settings_in(case), question_in(case))
-}
-
-fn point_of(case: &[u64; CASE], second: u64) -> PointResult {
-    screen_point(
-        encounter_in(case),
-        settings_in(case),
-        question_in(case),
-        second,
-    )
-}
-
 fn expected_drawing(case: &[u64; CASE]) -> Drawing {
     let (places, _) = case[18..39].as_chunks::<7>();
     Drawing {
@@ -157,17 +145,17 @@ fn expected_drawing(case: &[u64; CASE]) -> Drawing {
     }
 }
 
+// A point is drawn where the refusal that C and Rust get is 0.
 fn points_of(case: &[u64; CASE]) -> Points
     ensures { (result.different ≤ 4) × (result.drawn ≤ 4) × (result.refused ≤ 4) }
 {
-    let mut points = Points {
-        different: 0,
-        drawn: 0,
-        refused: 0,
-    };
+    let encounter = encounter_in(case);
+    let settings = settings_in(case);
+    let question = question_in(case);
+    let mut points = Points::default();
     let (expected, _) = case[39..].as_chunks::<4>();
     for [second, refusal, time, height] in expected {
-        let found = Point::from(point_of(case, *second));
+        let found = Point::from(screen_point(encounter, settings, question, *second));
         let expected = Point {
             refusal: *refusal,
             time: Some(*time),
@@ -186,7 +174,11 @@ impl Report {
         requires { 4 * (self.old.cases + 1) < 2 ^ 64 }
         ensures { self.new.cases ≡ self.old.cases + 1 }
     {
-        let found = Drawing::from(drawing_of(case));
+        let found = Drawing::from(screen_drawing(
+            encounter_in(case),
+            settings_in(case),
+            question_in(case),
+        ));
         let points = points_of(case);
         self.cases += 1;
         self.other_drawings += u64::from(found != expected_drawing(case));
@@ -219,7 +211,9 @@ impl Display for Report {
     }
 }
 
-// Draws all whole cases.
+// Draws all whole cases. Zeros are written out, as a struct with ghost fields has no derived Default.
+// (`vectors` has this loop too, of three lines. One function of both would want a trait of their reports, with the number of cases as a ghost member, as no count may overflow, and an
+// impl in each: more than the two loops.)
 fn report_on(bytes: &[u8]) -> Report {
     let (cases, left_over) = whole_cases::<CASE>(bytes);
     let mut report = Report {

@@ -7,11 +7,12 @@ use Prim.Native.Nat.{ℕ, ◌+◌, ◌*◌, ◌<◌, ◌≤◌}
 use native.Mathlib.Omega.{arith}
 use lib.IntN.{ℤ, pos, neg_ℤ, ◌*ℤ◌, nat_abs}
 use lib.Signed.{◌≤ℤ◌, ◌<ℤ◌, le_z, clash_ℤ}
+use Rattle.std.proofs.lemmas.Bool.Decides.{Decides-like, same_from_decides}
 use Rattle.integers.specs.Extremes.{minℤ}
 use Rattle.integers.proofs.Difference.{cond_by}
 use Rattle.integers.proofs.Quotation.{quote}
 use Rattle.integers.proofs.Certificates.{by≤, by<, gap≤, ◌⊞◌, ◌⊠◌, 0≤pos, pos≤}
-use Rattle.integers.proofs.Laws.{≤ℤ_trans, nat_abs_hi, nat_abs_lo, nat_abs_in, maxℤ_left, maxℤ_right, minℤ_left, minℤ_right}
+use Rattle.integers.proofs.Laws.{≤ℤ_trans, nat_abs_hi, nat_abs_lo, maxℤ_right, minℤ_left}
 use Rattle.flight.specs.Flight.{stretch_height}
 use Rattle.flight.specs.declared.Part.{Part}
 use Rattle.flight.specs.inner.Parts.{ReachesAt, Proper}
@@ -20,12 +21,6 @@ use Rattle.flight.specs.inner.Clamped.{clamped}
 use Rattle.flight.proofs.Reach.{Reached, reached_exactly}
 use Rattle.flight.proofs.Crossing.{part_inside}
 use Rattle.flight.proofs.InsideTests.{reaches_decided}
-use Rattle.flight.proofs.Decides.{same_decision}
-
--- it is brought into that range
-pub clamped_size : (L : ℕ) (A : ℤ) → nat_abs (clamped L A) ≤ L
-clamped_size L A = nat_abs_in (clamped L A) L (maxℤ_left (neg_ℤ (pos L)) (minℤ A (pos L)))
-    (cond_by (le_z (neg_ℤ (pos L)) (minℤ A (pos L))) (minℤ A (pos L)) (neg_ℤ (pos L)) (λ z. z ≤ℤ pos L) (λ t. minℤ_right A (pos L)) (λ t. by≤ (L ∷ []) [] (0≤pos 0) (λ w. search quote depth 20) tt))
 
 module _ (L : ℕ) (A v g : ℤ) (large : 2 * nat_abs v + nat_abs g < L) (part : Part) (proper : Proper part) where
   module _ (j K : ℕ) (pK : 1 ≤ K) (l : j ≤ K) where
@@ -61,5 +56,6 @@ module _ (L : ℕ) (A v g : ℤ) (large : 2 * nat_abs v + nat_abs g < L) (part :
   )
 
   pub reaches_clamped : reaches A v g part ≡ reaches (clamped L A) v g part
-  reaches_clamped = same_decision (reaches_decided A v g part) (reaches_decided (clamped L A) v g part)
-      (Iff.trans (Iff.symm (reached_exactly A v g part proper)) (Iff.trans same_reached (reached_exactly (clamped L A) v g part proper)))
+  reaches_clamped =
+      let e = Iff.trans (Iff.symm (reached_exactly A v g part proper)) (Iff.trans same_reached (reached_exactly (clamped L A) v g part proper)) in
+      same_from_decides (reaches A v g part) (reaches (clamped L A) v g part) (Decides-like _ e.0 e.1 (reaches_decided A v g part)) (reaches_decided (clamped L A) v g part)

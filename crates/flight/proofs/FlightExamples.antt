@@ -1,6 +1,7 @@
 -- For the verdict "conflict" nothing is promised of flights: of two flights that obey the advice of M5 (document 01: climb to 0 at 500, v −1,000, r 0, c 10,000,
 -- h −7,000), one is inside the puck and the other is not. A third obeys before and after a delay, each rule on its side. Assumes nothing.
 use Rattle.std.specs.Prelude.{None, Some}
+use mathlib.Core.Path.{refl}
 use mathlib.Core.List.{List, [], ◌∷◌}
 use Prim.Native.Nat.{ℕ}
 use native.Mathlib.Omega.{arith}
@@ -50,7 +51,7 @@ just = stretch (pos 500) 2 ∷ stretch (pos 0) 5 ∷ []
 
 pub m5_inside : Obeys m5 (in_m5 just) × RightEntry m5 (in_m5 just) (Some 2)
 unfolding sensed_question obeys_test first_inside
-m5_inside = ((obeys_decided m5 (in_m5 just)).yes tt, right_entry m5 (in_m5 just) (omega arith))
+m5_inside = ((obeys_decided m5 (in_m5 just)).0 refl, right_entry m5 (in_m5 just) (omega arith))
 
 -- quicker than asked
 abbrev pub quick : List Stretch
@@ -58,7 +59,7 @@ quick = stretch (pos 2000) 1 ∷ stretch (pos 0) 6 ∷ []
 
 pub m5_outside : Obeys m5 (in_m5 quick) × RightEntry m5 (in_m5 quick) None
 unfolding sensed_question obeys_test first_inside
-m5_outside = ((obeys_decided m5 (in_m5 quick)).yes tt, right_entry m5 (in_m5 quick) (omega arith))
+m5_outside = ((obeys_decided m5 (in_m5 quick)).0 refl, right_entry m5 (in_m5 quick) (omega arith))
 
 -- ---- M1 with a delay of 5 seconds: it sinks by e, then climbs
 abbrev m1 : SensedQuestion
@@ -69,4 +70,4 @@ slow = stretch (neg_ℤ (pos 966)) 5 ∷ stretch (pos 500) 13 ∷ stretch (pos 0
 
 pub m1_delayed : Obeys m1 (sensed_flight (sense_of (asked (pos 1500) (pos 5))) slow) × RightEntry m1 (sensed_flight (sense_of (asked (pos 1500) (pos 5))) slow) None
 unfolding sensed_question obeys_test first_inside
-m1_delayed = ((obeys_decided m1 (sensed_flight (sense_of (asked (pos 1500) (pos 5))) slow)).yes tt, right_entry m1 (sensed_flight (sense_of (asked (pos 1500) (pos 5))) slow) (omega arith))
+m1_delayed = ((obeys_decided m1 (sensed_flight (sense_of (asked (pos 1500) (pos 5))) slow)).0 refl, right_entry m1 (sensed_flight (sense_of (asked (pos 1500) (pos 5))) slow) (omega arith))

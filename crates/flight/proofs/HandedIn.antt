@@ -1,6 +1,6 @@
 -- A flight read from numbers: how many stretches, each stretch from its two numbers, also in the sense; and the sizes, stretch by stretch. Assumes nothing.
-use mathlib.Core.Path.{◌≡◌, refl, ap, ◌∙◌, subst}
-use mathlib.Core.Bool.{true, false}
+use mathlib.Core.Path.{◌≡◌, refl, ap, ◌∙◌}
+use mathlib.Core.Bool.{false, true≢false}
 use mathlib.Core.List.{List, [], ◌∷◌}
 use Prim.Native.Nat.{ℕ, zero, suc, ◌*◌, ◌<◌}
 use native.Mathlib.Omega.{arith}
@@ -8,10 +8,8 @@ use lib.Dec.{T}
 use lib.IntN.{ℤ, pos}
 use lib.ListN.{length, get_or}
 use Rattle.integers.specs.Extremes.{max0}
-use Rattle.advisory.specs.declared.Sense.{Sense}
 use Rattle.flight.specs.declared.Stretch.{Stretch}
 use Rattle.flight.specs.HandedIn.{flight_of, paired}
-use Rattle.flight.specs.SensedFlight.{sensed_flight}
 
 -- two numbers to a stretch, and one more where they are not pairs
 pub count_handed : (l : List ℤ) → T (paired l) → length l ≡ 2 * length (flight_of l)
@@ -20,10 +18,7 @@ count_handed (g ∷ []) t = absurd t
 count_handed (g ∷ x ∷ l) t = omega (arith, count_handed l t)
 
 pub count_odd : (l : List ℤ) → paired l ≡ false → length l ≡ suc (2 * length (flight_of l))
-count_odd [] e = absurd (true_false e)
-  where
-    true_false : true ≡ false → ⊥
-    true_false e = subst T e tt
+count_odd [] e = absurd (true≢false e)
 count_odd (g ∷ []) e = omega arith
 count_odd (g ∷ x ∷ l) e = omega (arith, count_odd l e)
 
@@ -38,9 +33,3 @@ stretch_handed (g ∷ x ∷ l) zero z h = refl
 stretch_handed (g ∷ x ∷ l) (suc i) z h =
     stretch_handed l i z (omega arith)
     ∙ ap (λ (j : ℕ). record { acceleration = get_or (g ∷ x ∷ l) j (pos 0); seconds = max0 (get_or (g ∷ x ∷ l) (suc j) (pos 0)) }) {x = suc (suc (2 * i))} {y = 2 * suc i} (omega arith)
-
--- ---- in the sense
-module _ (w : Sense) where
-  pub sensed_count : (l : List Stretch) → length (sensed_flight w l) ≡ length l
-  sensed_count [] = refl
-  sensed_count (x ∷ l) = omega (arith, sensed_count l)

@@ -17,8 +17,7 @@ use Rattle.path.specs.Letters.{r, c, p, k, wh, u}
 use Rattle.path.specs.Window.{distance_at}
 use Rattle.flight.specs.declared.Stretch.{Stretch}
 use Rattle.flight.specs.Flight.{duration, acceleration_at, stretch_height, speed_after, speed_at, height_at}
-use Rattle.flight.specs.Inside.{InsidePuck}
-use Rattle.flight.specs.Inside.{InsideDuring}
+use Rattle.flight.specs.Inside.{InsidePuck, InsideDuring}
 use Rattle.flight.specs.declared.Part.{Part}
 use Rattle.flight.specs.inner.Parts.{near_part, band_from, band_to, SecondCrosses}
 use Rattle.flight.proofs.Steps.{height_between, height_within_lem, height_after}
@@ -157,11 +156,3 @@ inside_at_end s l = (
     to = omega arith;
   },
 )
-
--- later seconds have no time of the flight
-pub never_later : (s : SensedQuestion) (l : List Stretch) (n : ℕ) → duration l < n → ¬ InsideDuring s l n
-never_later s l n h d =
-    let from = d.from in
-    let flown = d.time.flown in
-    let divisor = d.time.divisor in
-    absurd (omega (arith, mul-le-mul_right d.m h))

@@ -2,14 +2,18 @@
 -- other answer is right. Assumes nothing.
 use Rattle.std.specs.Prelude.{None, Option, Some}
 use mathlib.Core.Path.{◌≡◌, refl, ap, subst}
+use mathlib.Core.Bool.{Bool, false≢true}
 use mathlib.Core.List.{List}
-use mathlib.Core.Logic.Iff
 use mathlib.Core.Logic.{⊎_elim, ◌↔◌}
 use Prim.Native.Nat.{ℕ, zero, suc, ◌+◌, ◌*◌, ◌<◌, ◌≤◌}
 use native.Mathlib.Nat.{le_of_mul-le-mul_right}
 use native.Mathlib.Omega.{arith}
 use lib.Dec.{T_not, ltb, ltb→lt, nltb→le}
+use lib.Ieee.Bits.{is_true}
 use lib.IntN.{ℤ, pos, neg_ℤ, ◌+ℤ◌, ◌*ℤ◌, nat_abs}
+use Rattle.std.specs.Bool.{Decides, passes}
+use Rattle.std.proofs.lemmas.Bool.Decides.{Decides-like, Decides-and, Decides-or}
+use Rattle.integers.proofs.Difference.{cond_by}
 use Rattle.integers.proofs.Laws.{split≤}
 use Rattle.path.specs.declared.SensedQuestion.{SensedQuestion}
 use Rattle.path.specs.Letters.{c, p, k, u}
@@ -21,7 +25,7 @@ use Rattle.flight.specs.Flight.{duration, acceleration_at, stretch_height, speed
 use Rattle.flight.specs.Inside.{height_apart, InsidePuck, InsideTime, InsideDuring, RightEntry}
 use Rattle.flight.specs.inner.Parts.{near_part, Tops, ReachesAt, Reaches, Crosses, band_from, band_to}
 use Rattle.flight.specs.inner.Tests.{reaches_at, tops, reaches, crosses, inside_at, inside_second, inside_from, first_inside}
-use Rattle.flight.proofs.Decides.{Decides, or_decides, and_decides, by_iff, le_decides, lt_decides, nat_decides, test_by}
+use Rattle.flight.proofs.Decides.{le_decides, lt_decides, nat_decides}
 use Rattle.flight.proofs.BySeconds.{second_of}
 use Rattle.flight.proofs.InsideSeconds.{inside_exactly, inside_at_end}
 
@@ -29,25 +33,25 @@ use Rattle.flight.proofs.InsideSeconds.{inside_exactly, inside_at_end}
 module _ (A v g : ℤ) where
   tops_decided : (x y : ℕ) → Decides (tops A v g x y) (Tops A v g x y)
   tops_decided x y =
-      by_iff (and_decides (lt_decides g (pos 0)) (and_decides (le_decides (pos 0) (v *ℤ pos y +ℤ g *ℤ pos x)) (le_decides (pos 0) (v *ℤ v +ℤ g *ℤ A))))
-      (λ h. record { curved = h.0; rising = h.1.0; top = h.1.1 }, λ h. (h.curved, (h.rising, h.top)))
+      Decides-like _ (λ h. record { curved = h.0; rising = h.1.0; top = h.1.1 }) (λ h. (h.curved, (h.rising, h.top)))
+      (Decides-and _ _ (lt_decides g (pos 0)) (Decides-and _ _ (le_decides (pos 0) (v *ℤ pos y +ℤ g *ℤ pos x)) (le_decides (pos 0) (v *ℤ v +ℤ g *ℤ A))))
 
   at_decided : (x y : ℕ) → Decides (reaches_at A v g x y) (ReachesAt A v g x y)
   at_decided x y = le_decides (A *ℤ pos y *ℤ pos y) (stretch_height v g x y)
 
   pub reaches_decided : (part : Part) → Decides (reaches A v g part) (Reaches A v g part)
-  reaches_decided Nowhere = record { yes = λ t. t; is = λ h. h }
-  reaches_decided (FromTo x z y) = or_decides (at_decided x y) (or_decides (at_decided z y) (and_decides (tops_decided x y) (le_decides (v *ℤ pos y +ℤ g *ℤ pos z) (pos 0))))
-  reaches_decided (From x y) = or_decides (at_decided x y) (or_decides (lt_decides A (pos 2 *ℤ v +ℤ g)) (and_decides (tops_decided x y) (lt_decides (v +ℤ g) (pos 0))))
+  reaches_decided Nowhere = (λ e. false≢true e, λ h. absurd h)
+  reaches_decided (FromTo x z y) = Decides-or _ _ (at_decided x y) (Decides-or _ _ (at_decided z y) (Decides-and _ _ (tops_decided x y) (le_decides (v *ℤ pos y +ℤ g *ℤ pos z) (pos 0))))
+  reaches_decided (From x y) = Decides-or _ _ (at_decided x y) (Decides-or _ _ (lt_decides A (pos 2 *ℤ v +ℤ g)) (Decides-and _ _ (tops_decided x y) (lt_decides (v +ℤ g) (pos 0))))
 
 crosses_decided : (A B v g : ℤ) (part : Part) → Decides (crosses A B v g part) (Crosses A B v g part)
 crosses_decided A B v g part =
-    by_iff (and_decides (reaches_decided A v g part) (reaches_decided (neg_ℤ B) (neg_ℤ v) (neg_ℤ g) part)) (λ h. record { up = h.0; down = h.1 }, λ h. (h.up, h.down))
+    Decides-like _ (λ h. record { up = h.0; down = h.1 }) (λ h. (h.up, h.down)) (Decides-and _ _ (reaches_decided A v g part) (reaches_decided (neg_ℤ B) (neg_ℤ v) (neg_ℤ g) part))
 
 pub puck_decided : (s : SensedQuestion) (l : List Stretch) (n : ℕ) → Decides (inside_at s l n) (InsidePuck s l n 1)
 puck_decided s l n =
-    by_iff (and_decides (nat_decides (nat_abs (distance_at s n 1)) (p s * 1)) (nat_decides (nat_abs (height_apart s l n 1)) (2 * 1 * 1 * k s)))
-    (λ x. record { near = x.0; level = x.1 }, λ x. (x.near, x.level))
+    Decides-like _ (λ x. record { near = x.0; level = x.1 }) (λ x. (x.near, x.level))
+    (Decides-and _ _ (nat_decides (nat_abs (distance_at s n 1)) (p s * 1)) (nat_decides (nat_abs (height_apart s l n 1)) (2 * 1 * 1 * k s)))
 
 -- ---- the least of f seconds from n on: inside, and no earlier one is; or none is
 record Least (In : ℕ → Type 0) (n i : ℕ) : Type 0 where
@@ -84,11 +88,12 @@ some_second s l i m t =
 module _ (s : SensedQuestion) (l : List Stretch) (pk : 1 ≤ k s) where
   pub second_inside : (n : ℕ) → n ≤ duration l → Decides (inside_second s l n) (InsideDuring s l n)
   unfolding inside_second
-  second_inside n h = test_by (ltb n (duration l)) _ _ (λ z. Decides z (InsideDuring s l n))
-      (λ t. by_iff (crosses_decided (band_from s l n) (band_to s l n) (speed_at (u s) l n 1) (acceleration_at l n 1) (near_part (c s) (p s) (distance_at s n 1))) (Iff.symm (inside_exactly s l n (ltb→lt n (duration l) t) pk)))
+  second_inside n h = cond_by (ltb n (duration l)) _ _ (λ (z : Bool). Decides z (InsideDuring s l n))
+      (λ t. let e = inside_exactly s l n (ltb→lt n (duration l) t) pk in
+      Decides-like _ e.1 e.0 (crosses_decided (band_from s l n) (band_to s l n) (speed_at (u s) l n 1) (acceleration_at l n 1) (near_part (c s) (p s) (distance_at s n 1))))
       (λ t. let j = nltb→le n (duration l) t in
-      by_iff (puck_decided s l n)
-      (subst (λ (z : ℕ). InsidePuck s l z 1 ↔ InsideDuring s l z) {x = duration l} {y = n} (omega arith) (Iff.symm (inside_at_end s l))))
+      let e = subst (λ (z : ℕ). InsideDuring s l z ↔ InsidePuck s l z 1) {x = duration l} {y = n} (omega arith) (inside_at_end s l) in
+      Decides-like _ e.1 e.0 (puck_decided s l n))
 
   from_least : (f n : ℕ) → f + n ≤ suc (duration l) → LeastOf (InsideDuring s l) f n (inside_from s l f n)
   unfolding inside_from
@@ -96,9 +101,9 @@ module _ (s : SensedQuestion) (l : List Stretch) (pk : 1 ≤ k s) where
   from_least (suc f) n h =
       let r = from_least f (suc n) (omega arith) in
       let i = second_inside n (omega arith) in
-      test_by (inside_second s l n) (Some n) (inside_from s l f (suc n)) (LeastOf (InsideDuring s l) (suc f) n)
-      (λ t. record { inside = i.yes t; from = omega arith; least = λ (j : ℕ) (a : n ≤ j) (b : j < n). absurd (omega arith) })
-      (λ t. not_here (InsideDuring s l) f n (λ x. T_not (inside_second s l n) t (i.is x)) (inside_from s l f (suc n)) r)
+      cond_by (inside_second s l n) (Some n) (inside_from s l f (suc n)) (LeastOf (InsideDuring s l) (suc f) n)
+      (λ t. record { inside = i.0 (is_true _ t); from = omega arith; least = λ (j : ℕ) (a : n ≤ j) (b : j < n). absurd (omega arith) })
+      (λ t. not_here (InsideDuring s l) f n (λ x. T_not (inside_second s l n) t (passes _ (i.1 x))) (inside_from s l f (suc n)) r)
 
   right : (r : Option ℕ) → LeastOf (InsideDuring s l) (suc (duration l)) 0 r → RightEntry s l r
   right None h = λ n m t. let x = some_second s l n m t in let flown = x.flown in h x.n (omega arith) (omega arith) x.during

@@ -9,13 +9,13 @@ use lib.Dec.{leb, ltb, leb→le, nleb→lt, ltb→lt, nltb→le}
 use lib.IntN.{ℤ, pos, negsuc, ◌+ℤ◌, ◌-ℤ◌, ◌*ℤ◌, nat_abs}
 use lib.Signed.{◌≤ℤ◌, <ℤ_irrefl}
 use Rattle.integers.specs.Extremes.{max0}
+use Rattle.integers.proofs.Difference.{cond_by}
 use Rattle.integers.proofs.Quotation.{quote}
 use Rattle.integers.proofs.Certificates.{by≤, by<, div≤, gap≤, ◌⊞◌, ◌⊠◌, 0≤pos, pos≤, pos<, nat≤}
 use Rattle.integers.proofs.Laws.{≤ℤ-of-≡, max0_ge, max0_le, max0_scale, nat_abs_hi, nat_abs_lo, nat_abs_in}
 use Rattle.flight.specs.declared.Part.{Part}
 use Rattle.flight.specs.inner.Parts.{InPart, Proper, DivisorWithin, part_up_to, near_part}
 use Rattle.flight.specs.declared.Part.TheVariants.{Nowhere, FromTo, From}
-use Rattle.flight.proofs.Decides.{test_by}
 
 -- j/K into the second the intruder is near
 pub record NearAt (c p : ℕ) (R : ℤ) (j K : ℕ) : Type 0 where
@@ -76,13 +76,13 @@ module _ (c p : ℕ) (R : ℤ) (pc : 0 < c) where
     x_z = max0_le (R -ℤ pos p) z (by≤ (p ∷ z ∷ []) (R ∷ []) (gap≤ (≤ℤ-of-≡ e)) (λ w. search quote depth 20) tt)
 
     part_pos : NearPart c p R (part_up_to c x (pos z))
-    part_pos = test_by (leb c x) Nowhere (cond (ltb z c) (FromTo x z c) (From x c)) (NearPart c p R)
+    part_pos = cond_by (leb c x) Nowhere (cond (ltb z c) (FromTo x z c) (From x c)) (NearPart c p R)
         (λ t. let l = leb→le c x t in record {
           proper = tt;
           there = λ j K n. let h = from_x j K n in let less = n.less in absurd (omega (arith, mul-le-mul_right K l, mul-le-mul_right c less));
           back = λ j K pK i. absurd i;
         })
-        (λ t. let l = nleb→lt c x t in test_by (ltb z c) (FromTo x z c) (From x c) (NearPart c p R)
+        (λ t. let l = nleb→lt c x t in cond_by (ltb z c) (FromTo x z c) (From x c) (NearPart c p R)
         (λ r. let zc = ltb→lt z c r in record {
           proper = (x_z, zc);
           there = λ j K n. (from_x j K n, till_z j K n);
@@ -99,7 +99,7 @@ module _ (c p : ℕ) (R : ℤ) (pc : 0 < c) where
   part_any (pos z) e = part_pos z e
 
 pub near_part_lem : (c p : ℕ) (R : ℤ) → NearPart c p R (near_part c p R)
-near_part_lem zero p R = test_by (leb (nat_abs R) p) (From 0 1) Nowhere (NearPart 0 p R)
+near_part_lem zero p R = cond_by (leb (nat_abs R) p) (From 0 1) Nowhere (NearPart 0 p R)
     (λ t. let l = leb→le (nat_abs R) p t in record {
       proper = omega arith;
       there = λ j K n. (omega arith, n.less);
@@ -114,11 +114,11 @@ near_part_lem (suc c) p R = part_any (suc c) p R (omega arith) (R +ℤ pos p) re
 
 -- its fractions have the divisor c, or 1
 pub near_divisor : (B c p : ℕ) (R : ℤ) → 1 ≤ B → c ≤ B → DivisorWithin B (near_part c p R)
-near_divisor B zero p R one h = test_by (leb (nat_abs R) p) (From 0 1) Nowhere (DivisorWithin B) (λ t. one) (λ t. tt)
+near_divisor B zero p R one h = cond_by (leb (nat_abs R) p) (From 0 1) Nowhere (DivisorWithin B) (λ t. one) (λ t. tt)
 near_divisor B (suc c) p R one h = up_to (R +ℤ pos p)
   where
     up_to : (Z : ℤ) → DivisorWithin B (part_up_to (suc c) (max0 (R -ℤ pos p)) Z)
     up_to (negsuc z) = tt
     up_to (pos z) = let x = max0 (R -ℤ pos p) in
-        test_by (leb (suc c) x) Nowhere (cond (ltb z (suc c)) (FromTo x z (suc c)) (From x (suc c))) (DivisorWithin B) (λ t. tt)
-        (λ t. test_by (ltb z (suc c)) (FromTo x z (suc c)) (From x (suc c)) (DivisorWithin B) (λ t. h) (λ t. h))
+        cond_by (leb (suc c) x) Nowhere (cond (ltb z (suc c)) (FromTo x z (suc c)) (From x (suc c))) (DivisorWithin B) (λ t. tt)
+        (λ t. cond_by (ltb z (suc c)) (FromTo x z (suc c)) (From x (suc c)) (DivisorWithin B) (λ t. h) (λ t. h))

@@ -8,7 +8,8 @@ pub struct Stretch {
     pub seconds: u64,
 }
 
-// A part of a second, in fractions of it: none of it; from x/y to z/y; or from x/y up to its end, which is the next second's.
+// A part of a second, in fractions of it: none of it; from x/y to z/y; or from x/y up to its end, which is the next second's. (None is a kind like the others: the
+// definitions and `Approach::reaches` have a case for each of the three, where an Option around the other two would have cases within a case.)
 #[derive(Clone, Copy)]
 pub enum Part {
     Nowhere,

@@ -7,6 +7,7 @@
 ghost use Rattle.std.specs.Prelude.{◌≡◌, ◌+◌, ◌^◌, ◌<◌, ◌≤◌, length, IfSome};
 ghost use Rattle.flights.specs.declared.TheConstants.{FLIGHT_ROOM};
 
+use binding::FlightResult;
 use candidate::{Flown, OneSidedAdvice, judge_flight};
 use cases::{encounter_in, report_arguments, settings_in};
 use question::Refusal;
@@ -29,15 +30,6 @@ struct Case<'a> {
     count: usize,
     given: &'a [[u8; 8]],
     ghost room: { count ≤ FLIGHT_ROOM },
-}
-
-// An answer's numbers: the refusal, or 0 and then 1 if the flight obeys, 1 if it is inside, and the second; what is not used is 0.
-#[derive(Clone, Copy, PartialEq, Eq, Default)]
-struct Numbers {
-    refusal: u64,
-    obeys: u64,
-    inside: u64,
-    second: u64,
 }
 
 #[derive(Clone, Copy)]
@@ -83,6 +75,7 @@ fn advice_in(head: &[u64; HEAD]) -> OneSidedAdvice {
     }
 }
 
+// The numbers stand in a room for the longest flight, as there is no heap; the flight is the first `count` of them.
 fn answer_to(case: Case<'_>) -> Result<Flown, Refusal> {
     let mut room = [0i64; FLIGHT_ROOM];
     for (number, bytes) in room.iter_mut().zip(case.given) {
@@ -96,23 +89,8 @@ fn answer_to(case: Case<'_>) -> Result<Flown, Refusal> {
     )
 }
 
-fn answer_numbers(answer: Result<Flown, Refusal>) -> Numbers {
-    match answer {
-        Err(why) => Numbers {
-            refusal: u64::from(why.number()),
-            ..Numbers::default()
-        },
-        Ok(flown) => Numbers {
-            refusal: 0,
-            obeys: u64::from(flown.obeys),
-            inside: u64::from(flown.inside.is_some()),
-            second: flown.inside.unwrap_or(0),
-        },
-    }
-}
-
-fn expected(head: &[u64; HEAD]) -> Numbers {
-    Numbers {
+fn expected(head: &[u64; HEAD]) -> FlightResult {
+    FlightResult {
         refusal: head[15],
         obeys: head[16],
         inside: head[17],
@@ -126,15 +104,18 @@ impl Report {
         requires { self.old.flights + 1 < 2 ^ 64 }
         ensures { self.new.flights ≡ self.old.flights + 1 }
     {
-        let found = answer_numbers(answer_to(case));
-        let flown = found.refusal == 0;
+        let answer = answer_to(case);
         self.flights += 1;
-        self.different += u64::from(found != expected(&case.head));
-        self.obeying += u64::from(flown && found.obeys == 1);
-        self.not_obeying += u64::from(flown && found.obeys != 1);
-        self.inside += u64::from(flown && found.inside == 1);
-        self.never += u64::from(flown && found.inside != 1);
-        self.refused += u64::from(!flown);
+        self.different += u64::from(FlightResult::from(answer) != expected(&case.head));
+        match answer {
+            Ok(flown) => {
+                self.obeying += u64::from(flown.obeys);
+                self.not_obeying += u64::from(!flown.obeys);
+                self.inside += u64::from(flown.inside.is_some());
+                self.never += u64::from(flown.inside.is_none());
+            }
+            Err(_) => self.refused += 1,
+        }
     }
 }
 
@@ -155,7 +136,7 @@ impl Display for Report {
     }
 }
 
-// Judges all whole cases.
+// Judges all whole cases. Zeros are written out, as a struct with a ghost field has no derived Default.
 fn report_on(bytes: &[u8]) -> Report {
     let mut report = Report {
         flights: 0,

@@ -47,9 +47,9 @@ module _ (s : SensedQuestion) (w : Sense) (l : List ℤ) where
     pub within : stretches_within (flight_of later) ≡ true
     pub force : x.acceleration ≡ acceleration_at (flown w l) n 1
 
-  module _ {n : ℕ} {motion : Motion} {before later : List ℤ} (h : BeginsAt s w l n motion before) {y : Stretch} where
-    pub next_begun : {x : Stretch} → flight_of before ≡ x ∷ flight_of later → y ≡ sensed_stretch w x → Begun n later y
-    next_begun {x} e is = subst (Begun n later) (sym is) (record {
+  module _ {n : ℕ} {motion : Motion} {before later : List ℤ} (h : BeginsAt s w l n motion before) where
+    pub next_begun : {x y : Stretch} → flight_of before ≡ x ∷ flight_of later → y ≡ sensed_stretch w x → Begun n later y
+    next_begun {x} {y} e is = subst (Begun n later) (sym is) (record {
       left = left;
       going = λ z. absurd (omega (arith, lasting));
       within = T_true _ (and_r (stretch_within x) (stretches_within (flight_of later)) both);
@@ -65,20 +65,32 @@ module _ (s : SensedQuestion) (w : Sense) (l : List ℤ) where
         left : LeftAt (flown w l) n (sensed_stretch w x ∷ flown w later)
         left = subst (LeftAt (flown w l) n) (ap (sensed_flight w) e) h.left
 
-    pub none_begun : flight_of before ≡ [] → flight_of later ≡ [] → y ≡ stretch (pos 0) 0 → Begun n later y
-    none_begun e f is = subst (Begun n later) (sym is) (record {
+    -- at the flight's end: nothing of a stretch without acceleration
+    pub none_begun : flight_of before ≡ [] → flight_of later ≡ [] → Begun n later (stretch (pos 0) 0)
+    none_begun e f = record {
       left = subst (λ (r : List Stretch). LeftAt (flown w l) n (stretch (pos 0) 0 ∷ sensed_flight w r)) (sym f) (at_end ended);
       going = λ z. f;
       within = ap stretches_within f;
       force = sym (force_at_end ended);
-    })
+    }
       where
         ended : LeftAt (flown w l) n []
         ended = subst (LeftAt (flown w l) n) (ap (sensed_flight w) e) h.left
 
-  -- the same stretch, its acceleration written otherwise
-  pub written : {n : ℕ} {later : List ℤ} {x : Stretch} {g : ℤ} → g ≡ x.acceleration → Begun n later x → Begun n later (stretch g x.seconds)
-  written {n} {later} {x} e b = subst (λ (i : ℤ). Begun n later (stretch i x.seconds)) (sym e) b
+  -- and its place
+  pub begun_motion : {n : ℕ} {motion : Motion} {before later : List ℤ} {x : Stretch} → BeginsAt s w l n motion before → Begun n later x
+      → {y v g : ℤ} → y ≡ motion.height → v ≡ motion.speed → g ≡ x.acceleration → moving y v g ≡ motion_at s (flown w l) n
+  begun_motion h b i j k = same_motion (i ∙ h.height) (j ∙ h.speed) (k ∙ b.force)
+
+  pub begun_place : {x : Stretch} {place : Place} → Begun place.second.n place.later.0.now x → place.left ≡ x.seconds
+      → place.second.motion ≡ motion_at s (flown w l) place.second.n → PlaceAt s w l place
+  begun_place {x} {place} b lasting is = record {
+    left = subst (λ (g : ℤ). LeftAt (flown w l) place.second.n (stretch g place.left ∷ flown w place.later.0.now)) (b.force ∙ sym (ap (λ (m : Motion). m.acceleration) is))
+        (subst (λ (t : ℕ). LeftAt (flown w l) place.second.n (stretch x.acceleration t ∷ flown w place.later.0.now)) (sym lasting) b.left);
+    going = λ none. b.going (sym lasting ∙ none);
+    within = b.within;
+    motion = is;
+  }
 
   -- ---- a second later, with the motion m
   module _ {place : Place} (at : PlaceAt s w l place) (more : 0 < place.left) {m : Motion} (is : m ≡ motion_after place.second.motion) where

@@ -11,7 +11,7 @@ use native.Mathlib.Omega.{arith}
 use borrow.Author.Tests.{eq-eqb, ne_eqb, lt-ltb}
 use lib.Dec.{eqb, ltb}
 use lib.IntN.{ℤ}
-use Rattle.integers.proofs.Branches.{picks_yes}
+use Rattle.std.proofs.lemmas.Bool.{cond-true}
 use Rattle.integers.proofs.Laws.{split≤}
 use Rattle.advisory.specs.declared.Sense.{Sense}
 use Rattle.path.specs.declared.SensedQuestion.{SensedQuestion}
@@ -101,7 +101,7 @@ module _ (s : SensedQuestion) (l : List Stretch) where
       ap (λ (b : Bool). cond b (inside_at_start s n (motion_at s l n)) (crosses_in s n (motion_at s l n))) (eq-eqb n (duration l) (omega arith)) ∙ sym (last_test s l n e))
       (λ (i : n < duration l).
       ap (λ (b : Bool). cond b (inside_at_start s n (motion_at s l n)) (crosses_in s n (motion_at s l n))) (going n i)
-      ∙ sym (picks_yes (ltb n (duration l)) (crosses_in s n (motion_at s l n)) (inside_at_start s n (motion_at s l n)) (lt-ltb n (duration l) i)))
+      ∙ sym (cond-true (ltb n (duration l)) (crosses_in s n (motion_at s l n)) (inside_at_start s n (motion_at s l n)) (lt-ltb n (duration l) i)))
       (split≤ (duration l) n)
 
   found_from : (f n : ℕ) → n + f ≡ suc (duration l) → option_map number (find (inside s) (places_from s l f n)) ≡ inside_from s l f n

@@ -4,6 +4,7 @@
 
 ghost use Rattle.std.specs.Prelude.{◌≡◌, true, ◌+◌, ◌<◌};
 ghost use Rattle.std.specs.Iterator.{YieldsFirstBy, item_count};
+ghost use Rattle.std.specs.Option.{ForSome};
 ghost use Rattle.flight.specs.HandedIn.{flight_of, numbers_within};
 ghost use Rattle.flight.specs.FlightLimits.{stretch_within};
 ghost use Rattle.flight.specs.SensedFlight.{sensed_stretch, sensed_flight};
@@ -26,7 +27,8 @@ pub struct Flight<'a> {
     pub ghost within: { numbers_within numbers.now ≡ true },
 }
 
-// A whole second of a flight, what is left of the stretch that owns it, and the stretches after that. At the flight's end nothing is left.
+// A whole second of a flight, what is left of the stretch that owns it, and the stretches after that. At the flight's end nothing is left. (That it is a place of the flight is a clause of what gives it:
+// to keep that, each place would carry the flight.)
 #[derive(Clone, Copy)]
 struct Place<'a> {
     second: Second,
@@ -41,7 +43,7 @@ fn sensed_stretch(sense: Sense, stretch: Stretch) -> Stretch
 {
     Stretch {
         acceleration: sign_of(sense) * stretch.acceleration,
-        seconds: stretch.seconds,
+        ..stretch
     }
 }
 
@@ -53,7 +55,7 @@ fn motion_after(second: Second) -> Motion
     Motion {
         height: now.height + 2 * now.speed + now.acceleration,
         speed: now.speed + now.acceleration,
-        acceleration: now.acceleration,
+        ..now
     }
 }
 
@@ -64,13 +66,18 @@ impl<'a> Flight<'a> {
         ensures { (result.second.n ≡ n) × PlaceAt self.entry.question.sensed self.entry.sense self.entry.numbers.now result }
     {
         let mut later = left;
-        let stretch = match later.next() {
-            Some(stretch) => sensed_stretch(self.sense, stretch),
-            None => Stretch {
+        let Some(stretch) = later.next() else {
+            let motion = Motion {
                 acceleration: 0,
-                seconds: 0,
-            },
+                ..motion
+            };
+            return Place {
+                second: Second { n, motion },
+                left: 0,
+                later,
+            };
         };
+        let stretch = sensed_stretch(self.sense, stretch);
         let motion = Motion {
             acceleration: stretch.acceleration,
             ..motion
@@ -107,18 +114,17 @@ impl<'a> Flight<'a> {
         Place {
             second: Second { n, motion },
             left: place.left - 1,
-            later: place.later,
+            ..place
         }
     }
 }
 
-// The places of a flight that are left, a second apart; the last is the flight's end.
+// The places of a flight that are left, a second apart, by the first of them; the last is the flight's end.
 #[derive(Drop)]
 struct Places<'a> {
     flight: Flight<'a>,
-    place: Place<'a>,
-    ended: bool,
-    ghost at: { PlaceAt flight.question.sensed flight.sense flight.numbers.now place },
+    place: Option<Place<'a>>,
+    ghost at: { ForSome place (λ there. PlaceAt flight.question.sensed flight.sense flight.numbers.now there) },
 }
 
 impl<'a> Iterator for Places<'a> {
@@ -131,14 +137,9 @@ impl<'a> Iterator for Places<'a> {
     ghost remaining = { item_count left_places };
 
     fn next(&mut self) -> Option<Place<'a>> {
-        if self.ended {
-            return None;
-        }
-        let place = self.place;
-        if place.left == 0 {
-            self.ended = true;
-        } else {
-            self.place = self.flight.after(place);
+        let place = self.place.take()?;
+        if place.left != 0 {
+            self.place = Some(self.flight.after(place));
         }
         Some(place)
     }
@@ -153,8 +154,7 @@ impl<'a> Flight<'a> {
     {
         Places {
             flight: self,
-            place: self.start(),
-            ended: false,
+            place: Some(self.start()),
         }
     }
 }

@@ -4,8 +4,10 @@ use mathlib.Core.Path.{◌≡◌, refl, sym, ap, subst, ◌∙◌}
 use Prim.Native.Nat.{ℕ, zero, suc, ◌+◌, ◌*◌, ◌/◌, ◌%◌, ◌≤◌, ◌<◌, ◌∣◌}
 use native.Mathlib.Nat.{le_refl, not-suc-le-zero, zero-lt-suc, mul-pos, zero-mul, one-mul, le-mul_of_pos_right, mul-lt-mul_of_pos_right}
 use native.Mathlib.Nat.{mod-lt, mod-eq_of_lt, div-add-mod', add-mul-mod_self_left}
-use native.Mathlib.Nat.{dvd_refl, dvd-zero, dvd-mod_iff, dvd-mul_right, pos_of_dvd_of_pos}
+use native.Mathlib.Nat.{dvd-mul_right, pos_of_dvd_of_pos}
 use native.Mathlib.Omega.{arith}
+use Rattle.std.specs.Int.{IsGcd}
+use Rattle.std.proofs.lemmas.Nat.Gcd.{IsGcd-from_zero, IsGcd-from_mod}
 use Rattle.instant.specs.Lowest.{euclid, gcd}
 
 -- ---- the steps (f and g count steps)
@@ -37,32 +39,17 @@ gcd_step a (suc b) h = enough b (a % suc b) (suc b) (a % suc b) (fewer a b (le_r
 
 -- ---- the greatest common divisor
 
--- g divides a and b, and every common divisor of them divides g
-pub record Greatest (a b g : ℕ) : Type 0 where
-  pub left : g ∣ a
-  pub right : g ∣ b
-  pub most : (k : ℕ) → k ∣ a → k ∣ b → k ∣ g
-
-of_zero : (a : ℕ) → Greatest a 0 a
-of_zero a = record { left = dvd_refl a; right = dvd-zero a; most = λ k i j. i }
-
-euclid_greatest : (f a b : ℕ) → b ≤ f → Greatest a b (euclid f a b)
-euclid_greatest zero a zero h = of_zero a
+euclid_greatest : (f a b : ℕ) → b ≤ f → IsGcd a b (euclid f a b)
+euclid_greatest zero a zero h = IsGcd-from_zero a 0 refl
 euclid_greatest zero a (suc b) h = absurd (not-suc-le-zero h)
-euclid_greatest (suc f) a zero h = of_zero a
-euclid_greatest (suc f) a (suc b) h =
-    let G = euclid_greatest f (suc b) (a % suc b) (fewer a b h) in
-    record {
-      left = (dvd-mod_iff _ G.left).0 G.right;
-      right = G.left;
-      most = λ k i j. G.most k j ((dvd-mod_iff k j).1 i);
-    }
+euclid_greatest (suc f) a zero h = IsGcd-from_zero a 0 refl
+euclid_greatest (suc f) a (suc b) h = IsGcd-from_mod a (suc b) _ (euclid_greatest f (suc b) (a % suc b) (fewer a b h))
 
-pub gcd_greatest : (a b : ℕ) → Greatest a b (gcd a b)
+pub gcd_greatest : (a b : ℕ) → IsGcd a b (gcd a b)
 gcd_greatest a b = euclid_greatest b a b (le_refl b)
 
 pub gcd_pos : (a b : ℕ) → 0 < a → 0 < gcd a b
-gcd_pos a b h = pos_of_dvd_of_pos (gcd_greatest a b).left h
+gcd_pos a b h = pos_of_dvd_of_pos (gcd_greatest a b).0 h
 
 -- ---- a common factor k
 
@@ -88,6 +75,6 @@ module _ (k : ℕ) (k-pos : 0 < k) where
 pub euclids_lemma : (d r x : ℕ) → 0 < d → 0 < x → ((k : ℕ) → k ∣ r → k ∣ d → k ≤ 1) → d ∣ r * x → d ∣ x
 euclids_lemma d r x d-pos x_pos apart h =
     let G = gcd_greatest d r in
-    let one : gcd d r ≡ 1 = omega (arith, apart (gcd d r) G.right G.left, gcd_pos d r d-pos) in
+    let one : gcd d r ≡ 1 = omega (arith, apart (gcd d r) G.1 G.0, gcd_pos d r d-pos) in
     let is_x : gcd (d * x) (r * x) ≡ x = gcd_scale x x_pos d r ∙ ap (λ (g : ℕ). g * x) one ∙ one-mul x in
-    subst (λ (g : ℕ). d ∣ g) is_x ((gcd_greatest (d * x) (r * x)).most d (dvd-mul_right d x) h)
+    subst (λ (g : ℕ). d ∣ g) is_x ((gcd_greatest (d * x) (r * x)).2 d (dvd-mul_right d x) h)

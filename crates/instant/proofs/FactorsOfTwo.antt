@@ -1,8 +1,8 @@
 -- Trailing zeros count factors of two: 2 to their number divides a number, and 2 to the smaller number of two divides both. By induction on the digits.
 -- Assumes nothing.
 use mathlib.Core.Path.{◌≡◌, refl, sym, ap, subst, ◌∙◌}
-use Prim.Native.Nat.{ℕ, zero, suc, ◌-◌, ◌*◌, ◌/◌, ◌%◌, ◌^◌, ◌≤◌, ◌<◌, ◌∣◌, min}
-use native.Mathlib.Nat.{zero-lt-suc, lt_of_le_of_lt, add-sub_of_le, min-le_left, min-le_right, pow-suc, div-lt_iff_lt-mul}
+use Prim.Native.Nat.{ℕ, zero, suc, ◌-◌, ◌*◌, ◌/◌, ◌%◌, ◌^◌, ◌≤◌, ◌∣◌, min}
+use native.Mathlib.Nat.{add-sub_of_le, min-le_left, min-le_right, pow-suc}
 use native.Mathlib.Nat.{one-dvd, dvd_trans, dvd-mul_right, mul-dvd-mul_right}
 use native.Mathlib.Omega.{arith}
 use lib.Pow.{pow-add}
@@ -21,16 +21,6 @@ zeros_divide (suc w) n = digit (n % 2) refl (zeros_divide w (n / 2))
     digit zero e h = rw pow-suc (subst (λ (x : ℕ). 2 ^ count_trailing_zeros w (n / 2) * 2 ∣ x) (twice e) (mul-dvd-mul_right _ h 2))
     digit (suc r) e h = one-dvd n
 
--- a number that is not 0 has fewer zeros at its end than digits
-pub zeros_below : (w n : ℕ) → 0 < n → n < 2 ^ w → count_trailing_zeros w n < w
-unfolding count_trailing_zeros
-zeros_below zero n n_pos h = absurd (omega arith)
-zeros_below (suc w) n n_pos h = digit (n % 2) refl (λ p. zeros_below w (n / 2) p ((div-lt_iff_lt-mul (zero-lt-suc 1)).1 (rw pow-suc at h)))
-  where
-    digit : (r : ℕ) → n % 2 ≡ r → (0 < n / 2 → count_trailing_zeros w (n / 2) < w) → under r (count_trailing_zeros w (n / 2)) < suc w
-    digit zero e below = omega (arith, below (omega arith))
-    digit (suc r) e below = zero-lt-suc w
-
 -- a smaller power of two divides a larger one
 power_divides : (i j : ℕ) → i ≤ j → 2 ^ i ∣ 2 ^ j
 power_divides i j h =
@@ -46,6 +36,3 @@ module _ (w n m : ℕ) where
 
   pub shared_right : 2 ^ shared_twos ∣ m
   shared_right = dvd_trans _ (power_divides _ _ (min-le_right _ _)) (zeros_divide w m)
-
-  pub shared_below : 0 < m → m < 2 ^ w → shared_twos < w
-  shared_below m-pos h = lt_of_le_of_lt (min-le_right _ _) (zeros_below w m m-pos h)

@@ -2,4 +2,3 @@ pub mod Euclid
 pub mod FactorsOfTwo
 pub mod TimeOrder
 pub mod LowestTerms
-pub mod Examples

@@ -4,9 +4,9 @@
 use mathlib.Core.Logic.{◌↔◌}
 use mathlib.Core.Path.{◌≡◌, refl, sym, ap, ap₂, subst, ◌∙◌}
 use Prim.Native.Nat.{ℕ, zero, suc, ◌+◌, ◌*◌, ◌/◌, ◌%◌, ◌≤◌, ◌<◌, ◌∣◌, zero-le}
-use native.Mathlib.Nat.{zero-lt-suc, not-suc-le-zero, lt_of_le_of_lt, one-mul, mul_comm, mul-pos, mul-lt-mul_of_pos_right, lt_of_mul-lt-mul_right, eq_of_mul-eq-mul_right}
-use native.Mathlib.Nat.{mod-lt, zero-div, div-one, div-le_self, div-add-mod', div-mul_cancel, div-div-eq-div-mul}
-use native.Mathlib.Nat.{one-dvd, dvd-zero, dvd_refl, dvd_antisymm, dvd-mul_left, dvd-mul_right, mul-dvd-mul_right, dvd_of_mul-dvd-mul_right, le_of_dvd, pos_of_dvd_of_pos}
+use native.Mathlib.Nat.{zero-lt-suc, not-suc-le-zero, lt_of_le_of_lt, one-mul, mul_comm, mul-lt-mul_of_pos_right, lt_of_mul-lt-mul_right, eq_of_mul-eq-mul_right}
+use native.Mathlib.Nat.{mod-lt, zero-div, div-le_self, div-add-mod', div-mul_cancel, div-div-eq-div-mul}
+use native.Mathlib.Nat.{dvd-zero, dvd_refl, dvd_antisymm, dvd-mul_left, dvd-mul_right, mul-dvd-mul_right, dvd_of_mul-dvd-mul_right, le_of_dvd, pos_of_dvd_of_pos}
 use native.Mathlib.Omega.{arith}
 use lib.Arith.{digits_div, digits_mod}
 use Rattle.instant.specs.declared.Time.{Time}
@@ -15,7 +15,7 @@ use Rattle.instant.specs.inner.Sizes.{SizedInstant}
 use Rattle.instant.specs.LowestTerms.{shows, LowestTerms, whole_time, SizedTime}
 use Rattle.instant.specs.Lowest.{gcd, reduced, lowest}
 use Rattle.instant.proofs.Euclid.{gcd_greatest, gcd_pos, gcd_scale, euclids_lemma}
-use Rattle.instant.proofs.TimeOrder.{≈-sym, ≈-trans, scaled-≈}
+use Rattle.instant.proofs.TimeOrder.{≈-sym, ≈-trans}
 
 pub lowest_reduced : (n m : ℕ) → 0 < m → lowest n m ≡ reduced n m
 lowest_reduced n zero m-pos = absurd (not-suc-le-zero m-pos)
@@ -30,15 +30,15 @@ module _ (n m : ℕ) (m-pos : 0 < m) where
       let g = gcd m r in
       let G = gcd_greatest m r in
       let g-pos = gcd_pos m r m-pos in
-      let er : r / g * g ≡ r = div-mul_cancel g G.right in
-      let em : m / g * g ≡ m = div-mul_cancel g G.left in
+      let er : r / g * g ≡ r = div-mul_cancel g G.1 in
+      let em : m / g * g ≡ m = div-mul_cancel g G.0 in
       let en : n / m * m + r ≡ n = div-add-mod' n m in
       let r-lt : r < m = mod-lt n m-pos in
       record {
         value = omega (arith, ap (λ (x : ℕ). r / g * x) em, ap (λ (x : ℕ). x * (m / g)) er, ap (λ (x : ℕ). x * (m / g)) en);
         below = lt_of_mul-lt-mul_right g {m = r / g} {n = m / g} (omega arith);
         apart = λ k i j.
-            let both : k * g ∣ g = G.most (k * g) (rw em at (mul-dvd-mul_right k j g)) (rw er at (mul-dvd-mul_right k i g)) in
+            let both : k * g ∣ g = G.2 (k * g) (rw em at (mul-dvd-mul_right k j g)) (rw er at (mul-dvd-mul_right k i g)) in
             le_of_dvd (zero-lt-suc 0) (dvd_of_mul-dvd-mul_right k g-pos (subst (λ (x : ℕ). k * g ∣ x) (sym (one-mul g)) both));
       }
 
@@ -103,9 +103,6 @@ terms_same n m n' m' m-pos m'-pos t t' L L' = (
 pub lowest_same : (n m n' m' : ℕ) → 0 < m → 0 < m' → (lowest n m ≡ lowest n' m') ↔ (n ÷ m ≈ n' ÷ m')
 lowest_same n m n' m' m-pos m'-pos = terms_same n m n' m' m-pos m'-pos (lowest n m) (lowest n' m') (lowest_is n m m-pos) (lowest_is n' m' m'-pos)
 
-pub lowest_scaled : (n m s : ℕ) → 0 < m → 0 < s → lowest (n * s) (m * s) ≡ lowest n m
-lowest_scaled n m s m-pos s-pos = (lowest_same (n * s) (m * s) n m (mul-pos m-pos s-pos) m-pos).1 (scaled-≈ n m s)
-
 -- ---- whole times
 
 pub whole_is : (n m : ℕ) → m ∣ n → LowestTerms n m (whole_time (n / m))
@@ -123,9 +120,6 @@ pub remainder_zero : (n m : ℕ) (t : Time) → LowestTerms n m t → t.remainde
 remainder_zero n m t T e =
     let d : t.divisor ≡ 1 = omega (arith, T.below, T.apart t.divisor (rw e (dvd-zero t.divisor)) (dvd_refl t.divisor)) in
     λ i. record { seconds = t.seconds; remainder = e i; divisor = d i }
-
-pub lowest_second : (s : ℕ) → lowest s 1 ≡ whole_time s
-lowest_second s = lowest_whole s 1 (zero-lt-suc 0) (one-dvd s) ∙ ap whole_time (div-one s)
 
 pub lowest_zero : (m : ℕ) → 0 < m → lowest 0 m ≡ whole_time 0
 lowest_zero m m-pos = lowest_whole 0 m m-pos (dvd-zero m) ∙ ap whole_time (zero-div m)

@@ -7,7 +7,8 @@ ghost use Rattle.instant.specs.Order.{no_later, earlier};
 ghost use Rattle.instant.specs.inner.Sizes.{SizedInstant};
 ghost use Rattle.instant.specs.Lowest.{gcd, lowest};
 
-// The rational time n/m, in seconds; a time has m ≥ 1. (No Ord: where m is 0 its laws fail, as 0/0 would equal every time; and no Eq: 1/2 and 2/4 are one time.)
+// The rational time n/m, in seconds; a time has m ≥ 1. (No Ord: where m is 0 its laws fail, as 0/0 would equal every time; and no Eq: 1/2 and 2/4 are one time.
+// A whole second s is s/1, written out where one is meant.)
 #[derive(Clone, Copy)]
 pub struct Instant {
     pub n: u64,
@@ -15,7 +16,7 @@ pub struct Instant {
 }
 
 // A time as it is shown: whole seconds, and remainder/divisor of a second in lowest terms.
-#[derive(Clone, Copy)]
+#[derive(Clone, Copy, Default)]
 pub struct Time {
     pub seconds: u64,
     pub remainder: u64,
@@ -72,17 +73,14 @@ fn shared_twos(a: u64, b: u64) -> u32
     a.trailing_zeros().min(b.trailing_zeros())
 }
 
-// The time n/m in lowest terms; three zeros, which are no time, where m is 0.
+// The time n/m in lowest terms. Where m is 0 it is three zeros, which are no time: no caller has such an m, and each would take an Option apart in vain.
+// (It is no `From<Instant>`: that could not say what becomes of n/0.)
 // Shared factors of two are shifted out; Euclid's algorithm finds what else is shared.
 pub fn lowest_terms(n: u64, m: u64) -> Time
     ensures { result ≡ lowest n m }
 {
     if m == 0 {
-        return Time {
-            seconds: 0,
-            remainder: 0,
-            divisor: 0,
-        };
+        return Time::default();
     }
     let seconds = n / m;
     let left = n % m;

@@ -189,9 +189,6 @@ pos≤ {m} {n} h = to_ℤ≤ (natural m) (natural n) (omega arith)
 pub pos< : {m n : ℕ} → m < n → pos m <ℤ pos n
 pos< {m} {n} h = to_ℤ< (natural m) (natural n) (omega arith)
 
-pub pos_sub : {m n : ℕ} → m ≤ n → pos (n - m) ≡ pos n -ℤ pos m
-pos_sub {m} {n} h = to-ℤ≡ (natural (n - m)) (sum (natural n) (negated (natural m))) (omega arith)
-
 pub nat≤ : {m n : ℕ} → pos m ≤ℤ pos n → m ≤ n
 nat≤ {m} {n} h = omega (arith, to_ℕ≤ h (natural m) (natural n))
 
@@ -202,9 +199,6 @@ pub nat≡ : {m n : ℕ} → pos m ≡ pos n → m ≡ n
 nat≡ {m} {n} h = omega (arith, to-ℕ≡ h (natural m) (natural n))
 
 -- ---- more that is not negative, for certificates
-pub positive_gap : {a b : ℤ} → a <ℤ b → pos 0 <ℤ (b -ℤ a)
-positive_gap {a} {b} h = by< [] (a ∷ b ∷ []) (gap< h) (λ v. search quote) tt
-
 pub 0≤square : (z : ℤ) → pos 0 ≤ℤ (z *ℤ z)
 0≤square (pos n) = 0≤pos (n * n)
 0≤square (negsuc n) = 0≤pos (suc n * suc n)

@@ -16,7 +16,7 @@ neg_part (negsuc n) = suc n
 -- ---- sum, negation and product, in these parts
 
 -- what holds of both values holds of the one that a test picks
-pub cond_by : (c : Bool) (x y : ℤ) (X : ℤ → Type 0) → (T c → X x) → (T (not c) → X y) → X (cond c x y)
+pub cond_by : {A : Type 0} (c : Bool) (x y : A) (X : A → Type 0) → (T c → X x) → (T (not c) → X y) → X (cond c x y)
 cond_by true x y X f g = f tt
 cond_by false x y X f g = g tt
 

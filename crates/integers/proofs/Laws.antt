@@ -5,31 +5,18 @@ use mathlib.Core.List.{[], ◌∷◌}
 use mathlib.Core.Logic.{◌⊎◌, inl, inr, ⊎_elim}
 use Prim.Native.Nat.{ℕ, ◌*◌, ◌<◌, ◌≤◌}
 use native.Mathlib.Omega.{arith}
-use lib.Dec.{T, T_not, leb, leb→le, nleb→lt}
-use lib.IntN.{ℤ, pos, negsuc, neg_ℤ, ◌+ℤ◌, ◌-ℤ◌, ◌*ℤ◌, nat_abs}
+use lib.Dec.{T, T_not}
+use lib.IntN.{ℤ, pos, negsuc, neg_ℤ, ◌-ℤ◌, ◌*ℤ◌, nat_abs}
 use lib.Signed.{◌≤ℤ◌, ◌<ℤ◌, le_z, le_z_yes, ≤ℤ_refl, <ℤ_irrefl}
+use Rattle.std.proofs.lemmas.Bool.{cases_lt}
 use Rattle.integers.specs.Extremes.{max0, maxℤ, minℤ}
-use Rattle.integers.proofs.Difference.{cond_by, as_difference, natural, negated, to_ℤ≤, to_ℤ<, to-ℤ≡, to_ℕ≤, parts≤, parts<, parts≡}
+use Rattle.integers.proofs.Difference.{cond_by, as_difference, natural, negated, to_ℤ≤, to-ℤ≡, to_ℕ≤, parts≤, parts<, parts≡}
 use Rattle.integers.proofs.Quotation.{quote}
-use Rattle.integers.proofs.Certificates.{ring, by≤, by<, div≤, gap≤, gap<, ◌⊞◌, ◌⊠◌, 0≤pos, split<, pos≤, nat≤}
+use Rattle.integers.proofs.Certificates.{by≤, by<, gap≤, gap<, ◌⊞◌, ◌⊠◌, 0≤pos, split<, pos≤, nat≤}
 
--- ---- associativity and distributivity
-module _ (a b c : ℤ) where
-  pub *ℤ_assoc : (a *ℤ b) *ℤ c ≡ a *ℤ (b *ℤ c)
-  *ℤ_assoc = ring [] (a ∷ b ∷ c ∷ []) (λ v. search quote) tt
-
-  pub *ℤ_distl : a *ℤ (b +ℤ c) ≡ a *ℤ b +ℤ a *ℤ c
-  *ℤ_distl = ring [] (a ∷ b ∷ c ∷ []) (λ v. search quote) tt
-
-  pub *ℤ_distr : (a +ℤ b) *ℤ c ≡ a *ℤ c +ℤ b *ℤ c
-  *ℤ_distr = ring [] (a ∷ b ∷ c ∷ []) (λ v. search quote) tt
-
--- ---- order: transitivity, totality, antisymmetry
+-- ---- order: transitivity, antisymmetry
 pub ≤ℤ_trans : {a b c : ℤ} → a ≤ℤ b → b ≤ℤ c → a ≤ℤ c
 ≤ℤ_trans {a} {b} {c} h k = to_ℤ≤ (as_difference a) (as_difference c) (omega (arith, parts≤))
-
-pub ≤ℤ_<ℤ_trans : {a b c : ℤ} → a ≤ℤ b → b <ℤ c → a <ℤ c
-≤ℤ_<ℤ_trans {a} {b} {c} h k = to_ℤ< (as_difference a) (as_difference c) (omega (arith, parts≤, parts<))
 
 pub ≤ℤ_antisym : {a b : ℤ} → a ≤ℤ b → b ≤ℤ a → a ≡ b
 ≤ℤ_antisym {a} {b} h k = to-ℤ≡ (as_difference a) (as_difference b) (omega (arith, parts≤))
@@ -40,27 +27,11 @@ pub ≤ℤ-of-≡ : {a b : ℤ} → a ≡ b → a ≤ℤ b
 pub <ℤ_≤ℤ : {a b : ℤ} → a <ℤ b → a ≤ℤ b
 <ℤ_≤ℤ {a} {b} h = to_ℤ≤ (as_difference a) (as_difference b) (omega (arith, parts<))
 
-pub ≤ℤ_total : (a b : ℤ) → (a ≤ℤ b) ⊎ (b ≤ℤ a)
-≤ℤ_total a b = ⊎_elim (λ h. inl (<ℤ_≤ℤ h)) (λ h. inr h) (split< a b)
-
--- the two cases of an order of naturals
+-- the two cases of an order of naturals: the library's, with that of ≤ first. (Its `either` says this too, but stands in `core`, which a crate that uses `std` can't name.)
 pub split≤ : (m n : ℕ) → (m ≤ n) ⊎ (n < m)
-split≤ m n = go (leb m n) (leb→le m n) (nleb→lt m n)
-  where
-    go : (c : Bool) → (T c → m ≤ n) → (T (not c) → n < m) → (m ≤ n) ⊎ (n < m)
-    go true f g = inl (f tt)
-    go false f g = inr (g tt)
+split≤ m n = ⊎_elim inr inl (cases_lt n m)
 
--- ---- order and sums, products, negation
-pub +ℤ_mono : {a b c d : ℤ} → a ≤ℤ b → c ≤ℤ d → (a +ℤ c) ≤ℤ (b +ℤ d)
-+ℤ_mono {a} {b} {c} {d} h k = by≤ [] (a ∷ b ∷ c ∷ d ∷ []) (gap≤ h ⊞ gap≤ k) (λ v. search quote) tt
-
-pub *ℤ_mono : (k : ℤ) {a b : ℤ} → pos 0 ≤ℤ k → a ≤ℤ b → (k *ℤ a) ≤ℤ (k *ℤ b)
-*ℤ_mono k {a} {b} p h = by≤ [] (k ∷ a ∷ b ∷ []) (p ⊠ gap≤ h) (λ v. search quote) tt
-
-pub *ℤ_cancel : (k : ℤ) {a b : ℤ} → pos 0 <ℤ k → (k *ℤ a) ≤ℤ (k *ℤ b) → a ≤ℤ b
-*ℤ_cancel k {a} {b} p h = div≤ [] (k ∷ a ∷ b ∷ []) p (gap≤ h) (λ v. search quote) tt
-
+-- ---- order and negation, and a positive factor
 pub negℤ_mono : {a b : ℤ} → a ≤ℤ b → neg_ℤ b ≤ℤ neg_ℤ a
 negℤ_mono {a} {b} h = by≤ [] (a ∷ b ∷ []) (gap≤ h) (λ v. search quote depth 20) tt
 
@@ -105,6 +76,10 @@ max0_none (negsuc n) h = refl
 pub max0_le : (z : ℤ) (n : ℕ) → z ≤ℤ pos n → max0 z ≤ n
 max0_le (pos k) n h = nat≤ h
 max0_le (negsuc k) n h = omega arith
+
+pub max0_size : (z : ℤ) → max0 z ≤ nat_abs z
+max0_size (pos n) = omega arith
+max0_size (negsuc n) = omega arith
 
 pub max0_scale : (z : ℤ) (m k : ℕ) → (z *ℤ pos m) ≤ℤ pos k → max0 z * m ≤ k
 max0_scale (pos n) m k h = nat≤ {m = n * m} {n = k} h

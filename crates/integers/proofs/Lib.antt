@@ -13,7 +13,6 @@
 -- 5. A linear fact between few variables: `to_ℤ≤ .. (omega ..)`, by differences of naturals (`Difference`).
 -- 6. Named laws: `Laws`. Rising, falling and scale of the paths' arcs: `Arcs`, which is also an example of each tactic.
 -- 7. Signed code of 64 bits: `fits`, `passed`, `failed`, `result`, `plain` with `search machine` (`Machine`).
--- 8. What a test picks: `Branches`.
 pub mod Difference
 pub mod Polynomial
 pub mod Quotation
@@ -21,4 +20,3 @@ pub mod Certificates
 pub mod Laws
 pub mod Arcs
 pub mod Machine
-pub mod Branches

@@ -9,6 +9,7 @@ use lib.Dec.{T, ltb, leb, ltb→lt, lt→ltb, nleb→lt}
 use lib.Ieee.Fits.{and_l, and_r}
 use lib.IntN.{ℤ, pos, negsuc, neg_ℤ, ◌+ℤ◌, ◌*ℤ◌, nat_abs}
 use lib.Signed.{◌≤ℤ◌, ◌<ℤ◌, lt_z, le_z, lt_z_yes, lt_z_no, le_z_yes}
+use denote.Floats.{passes}
 use mir.Syntax.{w64}
 use mir.Val.{SFits, to_z, of_z}
 use mir.Facts.{to_z-of_z, to_z_pos}
@@ -142,17 +143,6 @@ any_small t u = omega arith
 abbrev pub unbounded : (t : ℤ) → Reading t
 unbounded t = record { number = t; bound = max0 t + neg_part t; guard = true; is = λ _. refl; small = any_small t }
 
--- a value that is known to fit, and no more: a parameter, an element, a call's result
-pub fitting_is : (z : ℤ) → SFits w64 z → Unit {0} → to_z w64 (of_z w64 z) ≡ z
-fitting_is z f t = to_z-of_z f
-
-pub fitting_small : (z : ℤ) → SFits w64 z → Unit {0} → max0 z + neg_part z ≤ 2 ^ 63
-fitting_small (pos n) f t = omega (arith, f.sfits)
-fitting_small (negsuc n) f t = omega (arith, f.sfits)
-
-abbrev pub fitting : (z : ℤ) → SFits w64 z → Reading (to_z w64 (of_z w64 z))
-fitting z f = record { number = z; bound = 2 ^ 63; guard = true; is = fitting_is z f; small = fitting_small z f }
-
 -- a term that is known to equal another, or the cast of a natural that is
 abbrev pub equal_to : {r t : ℤ} → r ≡ t → Reading t → Reading r
 equal_to h x = record { number = x.number; bound = x.bound; guard = x.guard; is = λ t. h ∙ x.is t; small = x.small }
@@ -182,14 +172,6 @@ fits x t = subst (SFits w64) (sym (x.is t₀)) (small_fits x.number x.bound (x.s
 pub result : {t : ℤ} (x : Reading t) → T x.guard → t ≡ x.number
 result x t = x.is t
 
--- a call's `ensures` says r ≡ t, over machine terms: the same over the numbers
-pub call_result : {r t : ℤ} → r ≡ t → (x : Reading t) → T x.guard → r ≡ x.number
-call_result h x t = h ∙ x.is t
-
--- what holds of the number holds of the term
-pub about : (X : ℤ → Type 0) {t : ℤ} (x : Reading t) → T x.guard → X x.number → X t
-about X x t p = subst X (sym (x.is t)) p
-
 abbrev pub read_natural_sum : (a c : ℕ) → Reading (pos a) → Reading (pos c) → Reading (pos (a + c))
 read_natural_sum a c x y = record { number = x.number +ℤ y.number; bound = x.bound + y.bound; guard = x.guard && y.guard; is = sum_is x y; small = sum_small x y }
 
@@ -199,12 +181,6 @@ read_natural_product a c x y = record { number = x.number *ℤ y.number; bound =
 -- ---- tests: what a branch tells of the numbers
 both : (X : ℤ → ℤ → Type 0) {s t : ℤ} (x : Reading s) (y : Reading t) → T (x.guard && y.guard) → X s t → X x.number y.number
 both X {s} {t} x y g h = subst (λ (c : ℤ). X x.number c) (y.is (and_r x.guard y.guard g)) (subst (λ (c : ℤ). X c t) (x.is (and_l x.guard y.guard g)) h)
-
-yes_T : (c : Bool) → c ≡ true → T c
-yes_T c h = subst T (sym h) tt
-
-no_T : (c : Bool) → c ≡ false → T (not c)
-no_T c h = subst (λ (d : Bool). T (not d)) (sym h) tt
 
 not_at_most : (a c : ℤ) → T (not (le_z a c)) → c <ℤ a
 not_at_most (pos a) (pos c) t = record { lt = lt→ltb c a (nleb→lt a c t) }
@@ -222,16 +198,16 @@ pub record Flag (f : Bool) : Type 1 where
 
 module _ {s t : ℤ} (x : Reading s) (y : Reading t) where
   pub less_yes : T (x.guard && y.guard) → lt_z s t ≡ true → x.number <ℤ y.number
-  less_yes g h = both ◌<ℤ◌ x y g (lt_z_yes (yes_T (lt_z s t) h))
+  less_yes g h = both ◌<ℤ◌ x y g (lt_z_yes (passes (lt_z s t) h))
 
   pub less_no : T (x.guard && y.guard) → lt_z s t ≡ false → y.number ≤ℤ x.number
-  less_no g h = both (λ (a c : ℤ). c ≤ℤ a) x y g (lt_z_no (no_T (lt_z s t) h))
+  less_no g h = both (λ (a c : ℤ). c ≤ℤ a) x y g (lt_z_no (passes (not (lt_z s t)) (ap not h)))
 
   pub at_most_yes : T (x.guard && y.guard) → le_z s t ≡ true → x.number ≤ℤ y.number
-  at_most_yes g h = both ◌≤ℤ◌ x y g (le_z_yes (yes_T (le_z s t) h))
+  at_most_yes g h = both ◌≤ℤ◌ x y g (le_z_yes (passes (le_z s t) h))
 
   pub at_most_no : T (x.guard && y.guard) → le_z s t ≡ false → y.number <ℤ x.number
-  at_most_no g h = both (λ (a c : ℤ). c <ℤ a) x y g (not_at_most s t (no_T (le_z s t) h))
+  at_most_no g h = both (λ (a c : ℤ). c <ℤ a) x y g (not_at_most s t (passes (not (le_z s t)) (ap not h)))
 
 abbrev pub flag_less : {s t : ℤ} → Reading s → Reading t → Flag (lt_z s t)
 flag_less x y = record { yes = x.number <ℤ y.number; no = y.number ≤ℤ x.number; guard = x.guard && y.guard; if_yes = less_yes x y; if_no = less_no x y }

@@ -29,7 +29,8 @@ use Rattle.question.specs.StartingSettings.{starting_settings}
 use Rattle.judge.specs.Examples.{meet, descend}
 use Rattle.judge.proofs.ExampleAnswers.{answer_to}
 use Rattle.judge.specs.Mirror.{mirrored, turned}
-use Rattle.question.proofs.WithinLimits.{AllPass, all_pass, between, within_in, or_else}
+use Rattle.std.proofs.Math.Facts.{or_yes}
+use Rattle.question.proofs.WithinLimits.{AllPass, all_pass, between, within_in}
 use Rattle.judge.proofs.Demand3.{judged}
 
 -- ---- the senses
@@ -61,7 +62,7 @@ turned_sense z t = ⊎_elim
       there = ap (λ (x : ℤ). cond (is_number (pos 1) (pos 1 -ℤ x)) Climb Descend) e;
       known = subst (λ (x : ℤ). T (is_number (pos 0) (pos 1 -ℤ x) || is_number (pos 1) (pos 1 -ℤ x))) (sym e) tt;
     })
-    (or_else (is_number (pos 0) z.sense) (is_number (pos 1) z.sense) t)
+    (or_yes (is_number (pos 0) z.sense) (is_number (pos 1) z.sense) t)
 
 -- -w × -z is w × z
 turned_value : (w : Sense) (x : ℤ) → sensed (opposite w) (neg_ℤ x) ≡ sensed w x

@@ -48,7 +48,7 @@ RightVerdict true s v = RightTwoSided s v
 -- an accepted question is judged, and the verdict is right
 abbrev pub RightAnswer : Question → SensedQuestion → Result Verdict Refusal → Type 0
 RightAnswer z s (Ok v) = RightVerdict (two_sided z) s v
-RightAnswer z s (Err n) = ⊥
+RightAnswer z s (Err why) = ⊥
 
 -- the verdict is "conflict"
 abbrev pub SaysConflict : Verdict → Type 0

@@ -12,14 +12,11 @@ use verdict::{ClearSides, Verdict, verdict_on};
 pub fn sides_number(sides: ClearSides) -> u8
     ensures { result ≡ sides_number sides }
 {
-    match sides {
-        ClearSides::Lower => 1,
-        ClearSides::Upper => 2,
-        ClearSides::Both => 3,
-    }
+    sides as u8
 }
 
-// The entry for plain numbers: any 64-bit values.
+// The entry for plain numbers: any 64-bit values. The three are apart, as on a sheet each is set by records of its own, and an encounter and the
+// settings outlast the question that is asked of them.
 #[tactic(auto, unfolding(crate::specs::Answers::answer))]
 pub fn judge(
     encounter: Encounter,

@@ -5,8 +5,7 @@ ghost use Rattle.std.specs.Prelude.{OnOk, IfSome};
 ghost use Rattle.std.specs.Io.KnownBytes.{Appends};
 ghost use Rattle.program.specs.Output.{program_output};
 
-use program::{program_output, read_room};
-use reading::read_full;
+use program::answer_read;
 use std::io;
 use std::io::{Read, Write};
 
@@ -14,10 +13,7 @@ use std::io::{Read, Write};
 fn answer_input<R: Read, W: Write>(input: &mut R, output: &mut W) -> io::Result<()>
     ensures { OnOk result (IfSome (R.remaining input.old) (λ sheet. Appends (W.contents output.old) (W.contents output.new) (program_output sheet))) }
 {
-    let mut sheet = read_room();
-    let read = read_full(input, &mut sheet)?;
-    let answer = program_output(&sheet[..read]);
-    output.write_all(&answer.area[..answer.length])
+    output.write_all(answer_read(input)?.bytes())
 }
 
 fn main(rt: HostRuntime) -> io::Result<()> {

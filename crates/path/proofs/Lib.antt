@@ -11,3 +11,4 @@ pub mod WholeSeconds
 pub mod Risen
 pub mod SideSizes
 pub mod WithoutDelay
+pub mod Reach

@@ -30,7 +30,8 @@ pub struct SensedQuestion {
     pub limit: Option<u64>,
 }
 
-// One-sided, the side is the lower one.
+// One-sided, the side is the lower one. An enum to match on, and no trait that two sides implement: definitions and contracts speak of a side as a value
+// (`Conflict side`), so each law is stated and proved once for both.
 #[derive(Clone, Copy)]
 pub enum Side {
     Lower,

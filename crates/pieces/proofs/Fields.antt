@@ -4,11 +4,11 @@ use mathlib.Core.Bool.{Bool, true, false, cond}
 use Prim.Native.Nat.{◌≤◌}
 use native.Mathlib.Nat.{mul-le-mul}
 use native.Mathlib.Omega.{arith}
-use lib.IntN.{ℤ, pos, negsuc, neg_ℤ, ◌-ℤ◌, nat_abs}
+use lib.IntN.{ℤ, pos, neg_ℤ, ◌-ℤ◌, nat_abs}
 use mir.Syntax.{w64}
 use mir.Val.{to_z}
 use Rattle.limits.specs.Limits.{max_strength, max_delay_acceleration, max_delay}
-use Rattle.integers.specs.Extremes.{max0}
+use Rattle.integers.proofs.Laws.{max0_size}
 use Rattle.integers.proofs.Machine.{Reading, bounded_natural, bounded_word, bounded_absolute}
 use Rattle.instant.specs.declared.Instant.{Instant}
 use Rattle.instant.specs.inner.Sizes.{SizedInstant}
@@ -23,10 +23,6 @@ use Rattle.conflict.proofs.Fields.{start_size, after_delay_size, numbers}
 use Rattle.pieces.specs.declared.WholePiece.{WholePiece}
 use Rattle.pieces.specs.Pieces.{height_after_delay, missing_speed, delay_piece, arc_piece, last_piece, has_begun, piece_at}
 use Rattle.pieces.specs.inner.PieceSizes.{most_height_after_delay, most_gap, PieceSizes}
-
-max0_size : (z : ℤ) → max0 z ≤ nat_abs z
-max0_size (pos n) = omega arith
-max0_size (negsuc n) = omega arith
 
 module _ (s : SensedQuestion) (z : Sizes s) where
   abbrev pub read_strength : Reading (to_z w64 s.strength)
@@ -107,9 +103,6 @@ module _ (s : SensedQuestion) (z : Sizes s) where
 
 -- ---- their times
 module _ (s : SensedQuestion) (z : Sizes s) where
-  pub arc_from_sized : SizedInstant (arc_piece s).from
-  arc_from_sized = record { n = omega (arith, z.d_hi); m = omega arith }
-
   pub last_from_sized : SizedInstant (last_piece s).from
   last_from_sized = record { n = omega (arith, mul-le-mul z.d_hi z.a_hi, gap_size s z); m = omega (arith, z.a_hi) }
 

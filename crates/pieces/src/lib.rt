@@ -30,7 +30,7 @@ fn height_after_delay(question: SizedQuestion) -> i64
     a * (2 * u * d - e * d * d)
 }
 
-// G, the speed that is missing at the delay's end.
+// G, the speed that is missing at the delay's end. (`conflict`'s own is of a rule: a drawing would make one, edge and all, for this number alone.)
 pub fn missing_speed(question: SizedQuestion) -> u64
     ensures { result ≡ missing_speed question.sensed }
 {

@@ -9,15 +9,15 @@ use native.Mathlib.Omega.{arith}
 use borrow.Author.Tests.{lt-leb}
 use lib.ListN.{length}
 use lib.Seq.{length-take-le, take_all}
-use Rattle.integers.proofs.Branches.{picks_no}
+use Rattle.std.proofs.lemmas.Bool.{cond-false}
 use Rattle.record.specs.SheetCheck.{longest_sheet, sheet_check}
 use Rattle.sheet.specs.WholeSheet.{sheet_answer, outcome_for}
 use Rattle.program.specs.Output.{answer_room, read_room, read_of, written_for, program_output}
 use Rattle.question.specs.RefusalNumbers.{refusal_number}
 use Rattle.question.specs.declared.refusal.Refusal.{Refusal}
 
-too_long : (s : List ℕ) → longest_sheet < length s → sheet_check s ≡ Err Refusal.SheetTooLong
-too_long s h = picks_no _ _ _ (lt-leb (length s) longest_sheet h)
+pub too_long : (s : List ℕ) → longest_sheet < length s → sheet_check s ≡ Err Refusal.SheetTooLong
+too_long s h = cond-false _ _ _ (lt-leb (length s) longest_sheet h)
 
 pub refused_output : (s : List ℕ) (why : Refusal) → sheet_check s ≡ Err why → program_output s ≡ 69 ∷ refusal_number why ∷ []
 unfolding program_output

@@ -1,13 +1,13 @@
 -- What became of refusal 5. Document 01's condition and order, before document 02 gave three of its parts numbers of their own, and that nothing else changed: the same
 -- questions are refused, each other number stays, and a 5 is now 5, 14, 15 or 16. Assumes nothing.
 use Rattle.std.specs.Prelude.{Err, Ok, Result, ⊤}
-use mathlib.Core.Path.{◌≡◌, refl, sym, subst, ap, ◌∙◌}
+use mathlib.Core.Path.{◌≡◌, refl, sym, ap, ◌∙◌}
 use mathlib.Core.Bool.{Bool, true, false, cond, not, ◌&&◌, ◌||◌}
 use mathlib.Core.List.{List, [], ◌∷◌}
 use mathlib.Core.Logic.{◌⊎◌, inl, inr, ◌↔◌}
 use Prim.Native.Nat.{ℕ}
 use native.Mathlib.Omega.{arith}
-use lib.Dec.{T}
+use Rattle.std.proofs.lemmas.Bool.{true≢false}
 use Rattle.limits.specs.Limits.{target_within, strength_within}
 use Rattle.question.specs.declared.Encounter.{Encounter}
 use Rattle.question.specs.declared.Settings.{Settings}
@@ -76,9 +76,6 @@ module _ (rest : Result ⊤ Refusal) where
   split true true true true true true true z = inl (refl, refl)
 
 -- ---- what is refused is not accepted
-differ : ¬ (true ≡ false)
-differ e = subst T e tt
-
 refused_not : {n : Refusal} → ¬ (◌≡◌ {A = Result ⊤ Refusal} (Ok tt) (Err n))
 refused_not e = let z : ◌≡◌ {A = ℕ} 0 1 = cc in omega arith
 
@@ -113,8 +110,8 @@ module _ (x : Encounter) (y : Settings) (z : Question) where
     where
       go : (b : Bool) (now : Result ⊤ Refusal) → Split rest b now → OnlyFiveSplit (cond b rest (Err Refusal.TargetOutside)) now
       go true now (inl h) = record { same_accepted = (λ e. sym h.1 ∙ e, λ e. h.1 ∙ e); stays = λ e. h.1; splits = λ e. absurd (rest_not_five (times_within z) e) }
-      go true now (inr h) = absurd (differ h.0)
-      go false now (inl h) = absurd (differ (sym h.0))
+      go true now (inr h) = absurd (true≢false h.0)
+      go false now (inl h) = absurd (true≢false (sym h.0))
       go false now (inr h) = record { same_accepted = (λ e. absurd (four_refuse now h.1 e), λ e. absurd (refused_not (sym e))); stays = λ e. absurd (e refl); splits = λ e. h.1 }
 
   pub only_five_split : OnlyFiveSplit (earlier_refusal x y z) (refusal x y z)

@@ -1,8 +1,8 @@
 -- What became of refusal 6: before document 02 let two-sided questions have a delay, it was also "a delay when two-sided". Without a delay, and one-sided, the
 -- first refusal is the earlier one. Assumes nothing.
 use Rattle.std.specs.Prelude.{Result, ⊤}
-use mathlib.Core.Path.{◌≡◌, refl, sym, ap, ◌∙◌}
-use mathlib.Core.Bool.{Bool, true, false, not, ◌&&◌, ◌||◌, and-true}
+use mathlib.Core.Path.{◌≡◌, sym, ap, ◌∙◌}
+use mathlib.Core.Bool.{Bool, true, false, not, ◌&&◌, ◌||◌, and-true, or-true}
 use mathlib.Core.List.{List, [], ◌∷◌}
 use lib.Dec.{T}
 use lib.Ieee.Fits.{and_i}
@@ -51,12 +51,8 @@ module _ (x : Encounter) (y : Settings) (z : Question) where
   unfolding refusal earlier_refusal
   same_refusal e = ap (λ (times : Bool). first_refusal (checks_with times x y z)) (sym (allowed z e))
 
-  or_true : (b : Bool) → (b || true) ≡ true
-  or_true true = refl
-  or_true false = refl
-
   pub refusal_without_delay : z.delay ≡ pos 0 → refusal x y z ≡ earlier_refusal x y z
-  refusal_without_delay e = same_refusal (ap (λ (delay : ℤ). not (two_sided z) || is_number (pos 0) delay) e ∙ or_true (not (two_sided z)))
+  refusal_without_delay e = same_refusal (ap (λ (delay : ℤ). not (two_sided z) || is_number (pos 0) delay) e ∙ or-true (not (two_sided z)))
 
   pub refusal_one_sided : two_sided z ≡ false → refusal x y z ≡ earlier_refusal x y z
   refusal_one_sided e = same_refusal (ap (λ (two : Bool). not two || no_delay z) e)

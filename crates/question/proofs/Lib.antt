@@ -1,5 +1,4 @@
 pub mod WithinLimits
-pub mod SameFields
 pub mod EarlierAdvice
 pub mod EarlierTimes
 pub mod RefusalNumbers

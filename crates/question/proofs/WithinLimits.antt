@@ -3,10 +3,11 @@ use Rattle.std.specs.Prelude.{Err, Ok}
 use mathlib.Core.Path.{◌≡◌, refl, sym, subst}
 use mathlib.Core.Bool.{Bool, true, false, not, cond, ◌&&◌, ◌||◌}
 use mathlib.Core.List.{List, [], ◌∷◌}
-use mathlib.Core.Logic.{◌⊎◌, inl, inr, ⊎_elim}
+use mathlib.Core.Logic.{⊎_elim}
 use Prim.Native.Nat.{ℕ}
 use native.Mathlib.Omega.{arith}
 use lib.Dec.{T}
+use Rattle.std.proofs.Math.Facts.{or_yes}
 use lib.Ieee.Fits.{and_i, and_l, and_r}
 use lib.IntN.{ℤ, pos, neg_ℤ}
 use lib.Signed.{◌≤ℤ◌, le_z, le_z_yes}
@@ -42,10 +43,6 @@ between lo hi x t = record { from = le_z_yes (and_l (le_z lo x) (le_z x hi) t); 
 
 pub within_in : {lo hi x : ℤ} → lo ≤ℤ x → x ≤ℤ hi → T (within lo hi x)
 within_in {lo} {hi} {x} h k = and_i (le_z lo x) (le_z x hi) h.le k.le
-
-pub or_else : (a b : Bool) → T (a || b) → T a ⊎ T b
-or_else true b t = inl tt
-or_else false b t = inr t
 
 -- a test that is asked only where a holds
 pub asked_where : (a b : Bool) → T (not a || b) → a ≡ true → T b
@@ -117,7 +114,7 @@ module _ (x : Encounter) (y : Settings) (z : Question) (e : refusal x y z ≡ Ok
   limit_between = ⊎_elim
       (λ h. let b = between (pos 0) (pos max_limit) z.limit h in record { from = b.from; to = ≤ℤ_trans b.to (le_z_yes tt) })
       (λ h. let b = between no_limit no_limit z.limit h in record { from = ≤ℤ_trans (le_z_yes tt) b.from; to = b.to })
-      (or_else (limit_within z.limit) (is_number no_limit z.limit) within_limits.limit)
+      (or_yes (limit_within z.limit) (is_number no_limit z.limit) within_limits.limit)
 
   -- two-sided, the upper fields are within their limits too
   pub upper_limits : two_sided z ≡ true → Between (neg_ℤ (pos max_speed)) (pos max_speed) z.upper_target × Between (pos min_strength) (pos max_strength) z.upper_strength

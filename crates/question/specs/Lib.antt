@@ -1,3 +1,4 @@
 pub mod StartingSettings
 pub mod RefusalNumbers
 pub mod Refusals
+pub mod OneSided

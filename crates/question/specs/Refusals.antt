@@ -1,6 +1,6 @@
 -- "Who can cause a refusal": the condition of each number, and the order in which the entry for plain numbers tests them. x is an encounter, y the settings,
 -- z a question.
-use Rattle.std.specs.Prelude.{Bool, not, cond, ◌&&◌, ◌||◌, List, [], ◌∷◌, ℕ, ℤ, pos, Err, Ok, Result, ⊤}
+use Rattle.std.specs.Prelude.{Bool, not, cond, ◌&&◌, ◌||◌, List, [], ◌∷◌, ℤ, pos, Err, Ok, Result, ⊤}
 use Rattle.std.specs.Int.Signed.{le_z}
 use Rattle.limits.specs.Limits.{within, distance_within, height_within, closing_speed_within, speed_within, radius_within, half_height_within, strength_within, acceleration_within, target_within, delay_within, limit_within, no_limit}
 use Rattle.advisory.specs.declared.Sense.{Sense}

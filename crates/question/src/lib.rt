@@ -12,9 +12,11 @@ use limits::{
 };
 
 pub mod accepted;
+pub mod one_sided_advice;
 pub mod refusal;
 
 pub use accepted::AcceptedQuestion;
+pub use one_sided_advice::OneSidedAdvice;
 pub use refusal::Refusal;
 
 // The intruder seen from the ownship: r, h, c, v, vi.
@@ -54,7 +56,7 @@ impl Settings {
     }
 }
 
-// A free question: sides, sense, target, upper target, a, b, d, limit.
+// A free question: sides, sense, target, upper target, a, b, d, limit. Sides, sense and limit are plain numbers, as any caller may hand in any: 4 and 6 refuse the others.
 #[derive(Clone, Copy)]
 pub struct Question {
     pub sides: i64,
@@ -104,6 +106,7 @@ pub fn two_sided(question: Question) -> bool
     question.sides == 2
 }
 
+// Any number has a sense here, 1 alone climb: an error for the other numbers would refuse a second time what `sides_known` refuses.
 pub fn sense_of(question: Question) -> Sense
     ensures { result ≡ sense_of question }
 {

@@ -1,8 +1,10 @@
 // What the programs read: their arguments, and files or standard input, into rooms that they lend. Nothing here allocates.
 #![tactic(auto)]
 
-ghost use Rattle.std.specs.Prelude.{◌≡◌, ◌≤◌, length, take, IfOk, IfSome, IsUtf8};
+ghost use Rattle.std.specs.Prelude.{◌≡◌, ◌≤◌, List, ℕ, length, take, Err, OnOk, IfOk, IfErr, IfSome, IsUtf8};
+ghost use Rattle.std.specs.Fn.{CalledAt};
 ghost use Rattle.std.specs.Io.KnownBytes.{Consumes};
+ghost use Rattle.reading.specs.Calls.{CalledInTurn};
 
 use std::env::FillError;
 use std::io::Read;
@@ -14,19 +16,41 @@ pub const NAME_ROOM: usize = 4096;
 
 // How many arguments there are, the program's own name among them.
 pub fn argument_count<E: Env>(env: &E) -> usize {
-    for k in 0..usize::MAX {
-        if let Err(FillError::NotPresent) = env.arg(k, &mut []) {
-            return k;
-        }
-    }
-    usize::MAX
+    (0..usize::MAX)
+        .find(|k| matches!(env.arg(*k, &mut []), Err(FillError::NotPresent)))
+        .unwrap_or(usize::MAX)
 }
 
-// Puts an argument at the start of the room, and returns its length: 0 where there is none of that number, or it is longer than the room.
+// Puts an argument at the start of the room, and returns its length: 0 where there is none of that number, or it is longer than the room. (0 is enough, as no file has an empty name.)
 pub fn argument<E: Env>(env: &E, k: usize, room: &mut [u8]) -> usize
     ensures { (result ≤ length room.new) × (result ≡ length (take result room.new)) }
 {
     env.arg(k, room).unwrap_or(0)
+}
+
+// The part of the room that an argument fills.
+pub fn argument_part<'a, E: Env>(env: &E, k: usize, room: &'a mut [u8]) -> &'a [u8]
+    ensures { length result.now ≤ length room.old }
+{
+    let length = argument(env, k, room);
+    &room[..length]
+}
+
+// Calls the closure with each argument behind the program's own name, in their order, until a call fails.
+pub fn each_argument<E: Env, F: FnMut(&[u8]) -> io::Result<()>>(
+    env: &E,
+    f: &mut F,
+) -> io::Result<()>
+    requires { F.IsAlwaysCallable f.old }
+    ensures ends { OnOk result ((names : List (List ℕ)) × CalledInTurn F.FnMut f.old names f.new) }
+    ensures stops { IfErr result (λ error. (names : List (List ℕ)) × (name : List ℕ) × (last : F)
+        × CalledInTurn F.FnMut f.old names last × CalledAt F.FnMut last name (Err error) f.new) }
+{
+    let mut room = [0u8; NAME_ROOM];
+    for k in 1..argument_count(env) {
+        f(argument_part(env, k, &mut room))?;
+    }
+    Ok(())
 }
 
 // Opens the file of that name for reading. A name that is no text is no file's here.
@@ -63,6 +87,15 @@ pub fn read_full<R: Read>(reader: &mut R, room: &mut [u8]) -> io::Result<usize>
         at += n;
     }
     Ok(at)
+}
+
+// Reads so, and gives the part of the room that it filled.
+pub fn read_part<'a, R: Read>(reader: &mut R, room: &'a mut [u8]) -> io::Result<&'a [u8]>
+    ensures bytes { IfOk result (λ read. IfSome (R.remaining reader.old) (λ input. read.now ≡ take (length room.old) input)) }
+    ensures rest { IfOk result (λ read. Consumes (R.remaining reader.old) (R.remaining reader.new) read.now) }
+{
+    let n = read_full(reader, room)?;
+    Ok(&room[..n])
 }
 
 #[cfg(test)]
@@ -129,6 +162,20 @@ mod tests {
         for k in 1..4 {
             assert_eq!(rt; argument(&Given {}, k, &mut room), 0, "argument {k}");
         }
+        assert!(rt; argument_part(&Given {}, 0, &mut room) == b"name".as_slice());
+    }
+
+    #[test]
+    fn each_argument_but_the_first(rt: HostRuntime) {
+        let mut total = 0usize;
+        let mut add = |name: &[u8]| {
+            total = total.saturating_add(name.len());
+            Ok(())
+        };
+        assert!(rt; each_argument(&Given {}, &mut add).is_ok());
+        assert_eq!(rt; total, 6);
+        let mut fail = |_name: &[u8]| Err(io::Error::from(io::ErrorKind::Other));
+        assert!(rt; each_argument(&Given {}, &mut fail).is_err());
     }
 
     #[test]
@@ -140,6 +187,8 @@ mod tests {
         let mut short: &[u8] = b"ab";
         assert!(rt; matches!(read_full(&mut short, &mut room), Ok(2)));
         assert!(rt; room == *b"abng");
+        let mut part: &[u8] = b"cd";
+        assert!(rt; matches!(read_part(&mut part, &mut room), Ok(b"cd")));
     }
 
     #[test]

@@ -2,7 +2,7 @@
 use borrow.Author.Tests.{leb-true}
 use native.Mathlib.Decide.{dec_lt}
 use Rattle.std.proofs.lemmas.List.{length-drop}
-use Rattle.std.proofs.Common.{◌≡◌, ap, sym, ◌∙◌, refl, ℕ, zero, suc, ◌≤◌, ◌<◌, Bool, true, false, cond, leb, List, [], ◌∷◌, length, drop, arith, take, take_all, ◌-◌, ◌+◌, drop-cons, drop-drop, add-one, is_ok, Result, Option, None, Some, is_some, IsOk, subst, Ok, Err, ok_or}
+use Rattle.std.proofs.Common.{◌≡◌, ap, sym, ◌∙◌, refl, ℕ, zero, suc, ◌≤◌, ◌<◌, Bool, true, false, cond, leb, List, [], ◌∷◌, length, drop, arith, ◌+◌, drop-cons, drop-drop, add-one, is_ok, Result, Option, None, Some, is_some, IsOk, subst, Ok, Err, ok_or}
 use Rattle.record.specs.declared.Kind.{Kind}
 use Rattle.record.specs.declared.Record.{Record}
 use Rattle.record.specs.Numbers.{byte_at}
@@ -104,10 +104,6 @@ module _ (s : List ℕ) (at : ℕ) (inside : at < length s) where
           ap (fault_after 0) (sym (drop-drop (body_length kind) (at + 1) s)) ∙ sym (fault_later from_here p within) ∙ e in
           (omega (arith, simp length-drop at within), rw (← next) later)
       go (Err why) p = let z = fault_unknown from_here p in cc
-
--- what a slice from a position on has
-pub from_place : {A : Type 0} (n : ℕ) (l : List A) → take (length l - n) (drop n l) ≡ drop n l
-from_place n l = take_all (length l - n) (drop n l) (simp length-drop (omega arith))
 
 -- an accepted sheet has at most 8,192 bytes and no fault
 pub accepted_sheet : (s : List ℕ) → sheet_check s ≡ Ok tt → (length s ≤ 8192) × (fault_after 0 s ≡ Ok tt)

@@ -1,7 +1,7 @@
 // A sheet's records: numbers, kinds and bodies, decoded in one place; and the refusals of a whole sheet that kinds and lengths decide. `specs/` says what each is.
 #![tactic(auto)]
 
-ghost use Rattle.std.specs.Prelude.{◌≡◌, ◌+◌, ◌≤◌, ◌<◌, length, drop, pos};
+ghost use Rattle.std.specs.Prelude.{◌≡◌, ◌+◌, ◌≤◌, ◌<◌, length, take, drop, pos};
 ghost use Rattle.std.specs.Option.{option_map};
 ghost use Rattle.record.specs.Numbers.{byte_at, short_at, word_at, number_at};
 ghost use Rattle.record.specs.Kinds.{kind_of, known_kind, body_length, body_after};
@@ -10,11 +10,13 @@ ghost use Rattle.record.specs.SheetCheck.{fault_after, sheet_check};
 
 use question::{Encounter, Question, Refusal};
 
+pub mod checked_sheet;
 pub mod records;
 
+pub use checked_sheet::CheckedSheet;
 pub use records::Records;
 
-// What a record is, which its first byte says.
+// What a record is, which its first byte says. Apart from `Record`, as the kind is known before there are numbers: it says how long the body is.
 #[derive(Clone, Copy)]
 pub enum Kind {
     Encounter,
@@ -56,7 +58,8 @@ impl Kind {
     }
 }
 
-// A record with its numbers: r, h, c, v, vi; p, k; e; code, limit; a free question.
+// A record with its numbers: r, h, c, v, vi; p, k; e; code, limit; a free question. A code is any byte and a limit any number that the sheet has: whoever answers
+// the question refuses them, as 8, 9, 17 or 6, and what the record held can still be told.
 #[derive(Clone, Copy)]
 pub enum Record {
     Encounter(Encounter),
@@ -66,14 +69,24 @@ pub enum Record {
     Free(Question),
 }
 
-const MAX_SHEET: usize = 8192;
+// No sheet has more bytes.
+pub const MAX_SHEET: usize = 8192;
+
+// The N bytes at a position. Fields are read by their places in the body, as the definitions and README.md's table of records have them: each line of
+// `encounter_in` and `question_in` can be held against its line there, where a reader that moves on would make the place of one hang on all before it.
+fn bytes_at<const N: usize>(bytes: &[u8], at: usize) -> [u8; N]
+    requires { at + N ≤ length bytes.now }
+    ensures { result ≡ take N (drop at bytes.now) }
+{
+    *bytes[at..].first_chunk().unwrap()
+}
 
 // The four bytes at a position, unsigned.
 pub fn word_at(bytes: &[u8], at: usize) -> u64
     requires { at + 4 ≤ length bytes.now }
     ensures { (result ≡ word_at bytes.now at) × (result < 4294967296) }
 {
-    u64::from(u32::from_be_bytes([bytes[at], bytes[at + 1], bytes[at + 2], bytes[at + 3]]))
+    u64::from(u32::from_be_bytes(bytes_at(bytes, at)))
 }
 
 // The same in two's complement.
@@ -82,15 +95,15 @@ fn number_at(bytes: &[u8], at: usize) -> i64
     requires { at + 4 ≤ length bytes.now }
     ensures { result ≡ number_at bytes.now at }
 {
-    i64::from(i32::from_be_bytes([bytes[at], bytes[at + 1], bytes[at + 2], bytes[at + 3]]))
+    i64::from(i32::from_be_bytes(bytes_at(bytes, at)))
 }
 
-// The two bytes at a position, unsigned.
+// The two bytes at a position, unsigned. (`from_be_bytes` is of each type and of no trait, so there is a function for each.)
 fn short_at(bytes: &[u8], at: usize) -> i64
     requires { at + 2 ≤ length bytes.now }
     ensures { result ≡ pos (short_at bytes.now at) }
 {
-    i64::from(u16::from_be_bytes([bytes[at], bytes[at + 1]]))
+    i64::from(u16::from_be_bytes(bytes_at(bytes, at)))
 }
 
 fn byte_at(bytes: &[u8], at: usize) -> i64
@@ -145,7 +158,8 @@ fn record_of(kind: Kind, body: &[u8]) -> Record
     }
 }
 
-// The record whose kind's byte stands at a position, if the kind is known.
+// The record whose kind's byte stands at a position, if the kind is known. By positions, for whoever tells where a record stands, in a sheet with a fault too;
+// `Records` walks a sheet without one and tells no places.
 pub fn record_at(sheet: &[u8], at: usize) -> Option<Record>
     requires { (at < length sheet.now) × (at + 1 + body_after (kind_of (byte_at sheet.now at)) ≤ length sheet.now) }
     ensures { result ≡ option_map (λ kind. record_of kind (drop (at + 1) sheet.now)) (kind_of (byte_at sheet.now at)) }
@@ -163,7 +177,7 @@ pub fn next_at(sheet: &[u8], at: usize) -> usize
 }
 
 // The first fault of the kinds and the lengths of the bodies.
-#[tactic(auto, using(crate::proofs::Scan::fault_unknown, crate::proofs::Scan::fault_short, crate::proofs::Scan::fault_later, crate::proofs::Scan::from_place), unfolding(crate::specs::SheetCheck::fault_after))]
+#[tactic(auto, using(crate::proofs::Scan::fault_unknown, crate::proofs::Scan::fault_short, crate::proofs::Scan::fault_later, std::proofs::lemmas::List::take_rest), unfolding(crate::specs::SheetCheck::fault_after))]
 fn first_fault(sheet: &[u8]) -> Result<(), Refusal>
     ensures { result ≡ fault_after 0 sheet.now }
 {

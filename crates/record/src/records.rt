@@ -1,10 +1,10 @@
 // The records of a sheet that has no fault, in order.
 
-ghost use Rattle.std.specs.Prelude.{◌≡◌, Ok, IsOk};
+ghost use Rattle.std.specs.Prelude.{◌≡◌, IsOk};
 ghost use Rattle.std.specs.Iterator.{YieldsFirst, item_count};
-ghost use Rattle.record.specs.SheetCheck.{fault_after, sheet_check};
+ghost use Rattle.record.specs.SheetCheck.{fault_after};
 
-use crate::{Kind, Record, record_of};
+use crate::{CheckedSheet, Kind, Record, record_of};
 
 // The bytes from the next record on.
 #[derive(Clone, Copy)]
@@ -17,11 +17,10 @@ impl<'a> Records<'a> {
     ghost use Rattle.record.specs.Records.{records};
     ghost use Rattle.record.specs.RecordsLeft.{records_left};
 
-    pub fn of(sheet: &'a [u8]) -> Records<'a>
-        requires { sheet_check sheet.now ≡ Ok tt }
-        ensures { records_left result ≡ records sheet.now }
+    pub fn of(sheet: CheckedSheet<'a>) -> Records<'a>
+        ensures { records_left result ≡ records sheet.entry.bytes.now }
     {
-        Records { rest: sheet }
+        Records { rest: sheet.bytes }
     }
 }
 
@@ -37,7 +36,7 @@ impl<'a> Iterator for Records<'a> {
     #[tactic(auto, using(crate::proofs::Scan::known_here, crate::proofs::Scan::whole_here, crate::proofs::Scan::faultless_later, crate::proofs::Scan::records_here), unfolding(crate::specs::Records::records_after))]
     fn next(&mut self) -> Option<Record> {
         let (first, after) = self.rest.split_first()?;
-        let kind = Kind::try_from(*first).ok()?;
+        let kind = Kind::try_from(*first).unwrap();
         let (_, rest) = after.split_at(kind.body_length());
         self.rest = rest;
         Some(record_of(kind, after))

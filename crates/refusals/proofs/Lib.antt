@@ -1,3 +1,1 @@
-pub mod SensedOrder
 pub mod TestedInOrder
-pub mod WhereTwoSided

@@ -1,21 +1,11 @@
--- A list of checks that is tested in order: what is left of it; and of two lists one after the other, the second is asked where the first accepts. Assumes
--- nothing.
-use Rattle.std.specs.Prelude.{Err, Ok, Result, ⊤}
-use mathlib.Core.Path.{◌≡◌, refl, sym, ◌∙◌}
+-- Of two lists of checks one after the other, the second is asked where the first accepts. Assumes nothing.
+use Rattle.std.specs.Prelude.{Err, Ok}
+use mathlib.Core.Path.{◌≡◌, refl}
 use mathlib.Core.Bool.{Bool, true, false, cond}
 use mathlib.Core.List.{List, [], ◌∷◌, ◌++◌}
-use Prim.Native.Nat.{ℕ, zero, suc}
-use native.Mathlib.Omega.{arith}
 use Rattle.question.specs.Refusals.{Check, first_refusal}
 use Rattle.question.specs.declared.refusal.Refusal.{Refusal}
 
--- the refusal among the checks that are left after the first k
-abbrev pub left : ℕ → List Check → Result ⊤ Refusal
-left zero l = first_refusal l
-left (suc k) [] = first_refusal []
-left (suc k) (c ∷ l) = left k l
-
--- ---- one list after the other
 pub accepted_first : (l r : List Check) → first_refusal l ≡ Ok tt → first_refusal (l ++ r) ≡ first_refusal r
 accepted_first [] r e = refl
 accepted_first (c ∷ l) r e = go (accepted_first l r) c.passes e
@@ -31,13 +21,3 @@ refused_first n (c ∷ l) r e = go (refused_first n l r) c.passes e
     go : (first_refusal l ≡ Err n → first_refusal (l ++ r) ≡ Err n) → (b : Bool) → cond b (first_refusal l) (Err c.refusal) ≡ Err n → cond b (first_refusal (l ++ r)) (Err c.refusal) ≡ Err n
     go f true e = f e
     go f false e = e
-
-pub both_accept : (l r : List Check) → first_refusal (l ++ r) ≡ Ok tt → (first_refusal l ≡ Ok tt) × (first_refusal r ≡ Ok tt)
-both_accept l r e = go (first_refusal l) refl
-  where
-    go : (k : Result ⊤ Refusal) → first_refusal l ≡ k → (first_refusal l ≡ Ok tt) × (first_refusal r ≡ Ok tt)
-    go (Ok _) f = (f, sym (accepted_first l r f) ∙ e)
-    go (Err n) f = absurd (clash (sym (refused_first n l r f) ∙ e))
-      where
-        clash : ◌≡◌ {A = Result ⊤ Refusal} (Err n) (Ok tt) → ⊥
-        clash g = let z : ◌≡◌ {A = ℕ} 0 1 = cc in omega arith

@@ -1,4 +1,6 @@
 // Refusals 1 to 6 and 14 to 16: what a question must meet besides the fields' limits, and the tests in their order. The conditions are `question`'s specs/Refusals.antt.
+//
+// The tests in order are inlined: called, they and `sensed`'s question cost some 90 instructions a verdict (`compare/bench`).
 #![tactic(auto)]
 
 ghost use Rattle.std.specs.Prelude.{◌≡◌, IfOk, IfErr, Err, ◌&&◌};
@@ -77,6 +79,7 @@ fn times_within(question: Question) -> bool
 }
 
 // A question's own refusals: 4, 5, 14, 15, 16, 6.
+#[inline(always)]
 fn check_fields(question: Question) -> Result<(), Refusal>
     ensures { result ≡ first_refusal (question_checks question) }
 {
@@ -103,6 +106,7 @@ fn check_fields(question: Question) -> Result<(), Refusal>
 
 // The refusals of plain numbers: 1, 2, 3, then the question's own.
 #[tactic(auto, unfolding(question::specs::Refusals::refusal))]
+#[inline(always)]
 pub fn check_question(
     encounter: Encounter,
     settings: Settings,
@@ -123,6 +127,7 @@ pub fn check_question(
 }
 
 // A question that no test refuses, as one.
+#[inline(always)]
 pub fn accept(
     encounter: Encounter,
     settings: Settings,

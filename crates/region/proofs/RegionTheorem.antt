@@ -8,7 +8,6 @@ use mathlib.Core.Logic.Iff
 use mathlib.Core.Logic.{⊎_elim, ◌↔◌}
 use Prim.Native.Nat.{ℕ, ◌+◌, ◌*◌, ◌-◌, ◌<◌, ◌≤◌}
 use native.Mathlib.Omega.{arith}
-use lib.Dec.{T}
 use lib.IntN.{ℤ, pos, neg_ℤ, ◌+ℤ◌, ◌-ℤ◌, ◌*ℤ◌}
 use lib.Signed.{◌<ℤ◌, clash_ℤ}
 use Rattle.integers.proofs.Quotation.{quote}
@@ -26,9 +25,7 @@ use Rattle.path.proofs.AdviceRule.{gain_zero}
 use Rattle.path.proofs.Continued.{continued_before, continued_after}
 use Rattle.path.proofs.WindowEnds.{window_from, window_till, window_by}
 use Rattle.region.specs.Formula.{Says, ◌²}
-use Rattle.region.specs.inner.Holds.{holds}
 use Rattle.region.specs.Regions.{L_expl, D_expl}
-use Rattle.region.proofs.Decided.{decides}
 use Rattle.region.proofs.Corners.{same_sign, Beyond, Clear, Within}
 use Rattle.region.proofs.Immediate.{figure_3}
 use Rattle.region.proofs.Delayed.{Until, After, figure_5}
@@ -168,10 +165,3 @@ unfolding D_expl
 delayed_region s sizes endless =
     Iff.trans (figure_5 (c s) (p s) (k s) (a s) (e s) (d s) sizes.a_lo (r s) (pos 2 *ℤ wh s) (u s) (q s))
     (Iff.trans (two_parts s sizes.a_lo endless) (none_exists s sizes.a_lo endless))
-
--- and as tests
-pub immediate_region_test : (s : SensedQuestion) → Sizes s → s.limit ≡ None → s.delay ≡ 0 → T (holds (L_expl s)) ↔ (¬ ConflictExists Lower s)
-immediate_region_test s sizes endless at_once = Iff.trans (decides (L_expl s)) (immediate_region s sizes endless at_once)
-
-pub delayed_region_test : (s : SensedQuestion) → Sizes s → s.limit ≡ None → T (holds (D_expl s)) ↔ (¬ ConflictExists Lower s)
-delayed_region_test s sizes endless = Iff.trans (decides (D_expl s)) (delayed_region s sizes endless)

@@ -3,7 +3,7 @@
 -- the region theorem is about the paths, so that nothing here speaks of the rule for the time shown. Assumes nothing.
 use Rattle.std.specs.Prelude.{Err, None, Ok, Result}
 use mathlib.Core.Path.{◌≡◌, refl, sym, ap, ◌∙◌, subst}
-use mathlib.Core.Bool.{false, true, ◌&&◌, ◌||◌, cond}
+use mathlib.Core.Bool.{false, true, ◌&&◌}
 use mathlib.Core.Logic.Iff
 use mathlib.Core.Logic.{◌↔◌, ⊎_elim}
 use Prim.Native.Nat.{ℕ, ◌<◌}
@@ -18,7 +18,6 @@ use Rattle.integers.specs.Extremes.{max0}
 use Rattle.integers.proofs.Certificates.{0≤pos, pos≤}
 use Rattle.integers.proofs.Laws.{≤ℤ_trans, max0_same}
 use Rattle.advisory.specs.declared.Sense.{Sense}
-use Rattle.advisory.specs.declared.Sense.TheVariants.{Climb, Descend}
 use Rattle.advisory.specs.declared.Instruction.{Instruction}
 use Rattle.advisory.specs.Sign.{sensed}
 use Rattle.advisory.specs.Catalogue.{rate_of, CodeWithin}
@@ -37,15 +36,16 @@ use Rattle.verdict.specs.declared.ClearSides.{ClearSides}
 use Rattle.verdict.specs.declared.Verdict.{Verdict}
 use Rattle.verdict.specs.declared.Verdict.TheVariants.{Clear, Conflict, Conflicts}
 use Rattle.limits.specs.Limits.{distance_within, height_within, closing_speed_within, max_speed, speed_within, target_within, strength_within, delay_within, no_limit}
-use Rattle.question.specs.Refusals.{is_number, two_sided, encounter_within, puck_within, delay_acceleration_within, sides_known, targets_within, strengths_within, times_within, refusal}
+use Rattle.question.specs.Refusals.{two_sided, encounter_within, puck_within, delay_acceleration_within, sides_known, targets_within, strengths_within, times_within, refusal}
 use Rattle.sensed.specs.Sensed.{limit_of, sensed_question}
-use Rattle.coded.specs.Coded.{sense_number, instructed, maintainable, asked, coded_question}
+use Rattle.coded.proofs.SenseNumbers.{sense_known, sense_back}
+use Rattle.coded.specs.Coded.{instructed, maintainable, asked, coded_question}
 use Rattle.verdict.specs.Verdicts.{verdict}
 use Rattle.judge.specs.Answers.{answer, AnswerRecord, answer_record}
 use Rattle.judge.specs.Demand3.{RightOneSided}
 use Rattle.question.proofs.WithinLimits.{Between, between, within_in, within_limits}
 use Rattle.sensed.proofs.AcceptedSizes.{accepted_sizes}
-use Rattle.integers.proofs.Branches.{picks_yes}
+use Rattle.std.proofs.lemmas.Bool.{cond-true}
 use Rattle.judge.proofs.Demand3.{judged, one_sided_lem}
 use Rattle.region.specs.Formula.{Formula, Says}
 use Rattle.region.specs.Figure5.{D_explᵈ}
@@ -108,15 +108,6 @@ module _ (x : Encounter) (y : Settings) (z : Question) (accepted : refusal x y z
         clear_exactly (L_expl (sensed_question x y z)) (immediate_region (sensed_question x y z) (accepted_sizes x y z accepted) endless (ap max0 at_once))
 
 -- ---- the questions of the codes
--- a sense, as a number and back
-sense_back : (w : Sense) → cond (is_number (pos 1) (sense_number w)) Climb Descend ≡ w
-sense_back Climb = refl
-sense_back Descend = refl
-
-sense_known : (w : Sense) → (is_number (pos 0) (sense_number w) || is_number (pos 1) (sense_number w)) ≡ true
-sense_known Climb = refl
-sense_known Descend = refl
-
 same_numbers : (F : ℤ → ℤ → ℤ → ℤ → Sense → Formula) {c c' p p' k k' e e' : ℤ} {w w' : Sense} → c ≡ c' → p ≡ p' → k ≡ k' → e ≡ e' → w ≡ w' → F c p k e w ≡ F c' p' k' e' w'
 same_numbers F i j l m n = cc
 
@@ -144,13 +135,13 @@ module _ (x : Encounter) (y : Settings) (encounter : encounter_within x ≡ true
     coded_accepted : refusal x y question ≡ Ok tt
     unfolding refusal
     coded_accepted =
-        picks_yes (encounter_within x) _ _ encounter
-        ∙ picks_yes (puck_within y) _ _ puck
-        ∙ picks_yes (delay_acceleration_within y) _ _ acceleration
-        ∙ picks_yes (sides_known question) _ _ (sense_known i.sense)
-        ∙ picks_yes (targets_within question) _ _ (is_true (targets_within question) targets)
-        ∙ picks_yes (strengths_within question) _ _ (is_true (strengths_within question) strengths)
-        ∙ picks_yes (times_within question) _ _ (is_true (times_within question) times)
+        cond-true (encounter_within x) _ _ encounter
+        ∙ cond-true (puck_within y) _ _ puck
+        ∙ cond-true (delay_acceleration_within y) _ _ acceleration
+        ∙ cond-true (sides_known question) _ _ (sense_known i.sense)
+        ∙ cond-true (targets_within question) _ _ (is_true (targets_within question) targets)
+        ∙ cond-true (strengths_within question) _ _ (is_true (strengths_within question) strengths)
+        ∙ cond-true (times_within question) _ _ (is_true (times_within question) times)
 
     -- the question's region in the numbers of the encounter, the settings and the instruction
     same_region : D_expl (sensed_question x y question) ≡ advisory_region x y i
@@ -177,7 +168,7 @@ module _ (x : Encounter) (y : Settings) (encounter : encounter_within x ≡ true
         line = i;
         in_table_1 = sym (advised_is_table_1 code byte) ∙ ap instruction_in e;
         question = instructed i x.speed no_limit;
-        asked = ap (λ (a : Result Instruction CodeError). asked code a x.speed no_limit) e ∙ picks_yes _ _ _ may;
+        asked = ap (λ (a : Result Instruction CodeError). asked code a x.speed no_limit) e ∙ cond-true _ _ _ may;
         accepted = coded_accepted i limits;
         clear = instruction_clear i limits;
       }

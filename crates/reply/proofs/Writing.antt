@@ -1,28 +1,36 @@
--- Runs of bytes stored one after the other are one run stored. Assumes nothing.
-use mathlib.Core.Path.{◌≡◌, sym, ap, ◌∙◌}
-use mathlib.Core.List.{List, [], ◌∷◌, ◌++◌, append_assoc}
-use Prim.Native.Nat.{ℕ, suc, ◌+◌, ◌≤◌}
-use native.Mathlib.Nat.{add-zero, zero-add}
-use native.Mathlib.Omega.{arith}
-use lib.ListN.{length, set, take, drop}
-use lib.Seq.{sets, sets-eq, drop-drop}
-
-next : (w n : ℕ) → w + suc n ≡ suc w + n
-next w n = omega arith
-
-pub sets_append : (d : List ℕ) (at : ℕ) (xs ys : List ℕ) → sets d at (xs ++ ys) ≡ sets (sets d at xs) (at + length xs) ys
-sets_append d at [] ys = ap (λ (n : ℕ). sets d n ys) (sym (add-zero at))
-sets_append d at (x ∷ xs) ys = sets_append (set d at x) (suc at) xs ys ∙ ap (λ (n : ℕ). sets (sets (set d at x) (suc at) xs) n ys) (sym (next at (length xs)))
+-- Bytes stored one after the other are a run stored, and where a run that is stored stands in its area. Assumes nothing.
+use Rattle.std.proofs.lemmas.List.{length-drop, take_rest, append-nil}
+use Rattle.std.proofs.Common.{◌≡◌, ap, sym, ◌∙◌, ℕ, suc, ◌+◌, ◌-◌, ◌≤◌, List, [], ◌∷◌, ◌++◌, length, take, drop, arith, add-one, drop-drop}
+use mathlib.Core.List.{append_assoc}
+use native.Mathlib.Nat.{zero-add}
+use borrow.Rule.Slice.PartMut.{mid_of, put_mid}
+use lib.ListN.{set, drop_of_length-le}
+use lib.Seq.{sets, sets-eq}
 
 pub two_stores : (d : List ℕ) (w a b : ℕ) → set (set d w a) (w + 1) b ≡ sets d w (a ∷ b ∷ [])
-two_stores d w a b = sym (sets_append d w (a ∷ []) (b ∷ []))
+two_stores d w a b = ap (λ (n : ℕ). set (set d w a) n b) (add-one w)
+
+-- (These two are docs/PORT.md's: no proof cites them.)
+pub four_stores : (d : List ℕ) (w a b c e : ℕ) → set (set (set (set d w a) (w + 1) b) (w + 2) c) (w + 3) e ≡ sets d w (a ∷ b ∷ c ∷ e ∷ [])
+four_stores d w a b c e =
+    ap (λ (n : ℕ). set (set (set (set d w a) n b) (w + 2) c) (w + 3) e) (add-one w)
+    ∙ ap (λ (n : ℕ). set (set (set (set d w a) (suc w) b) n c) (w + 3) e) {x = w + 2} {y = suc (suc w)} (omega arith)
+    ∙ ap (λ (n : ℕ). set (set (set (set d w a) (suc w) b) (suc (suc w)) c) n e) {x = w + 3} {y = suc (suc (suc w))} (omega arith)
+
+-- a byte, then a run
+pub one_then : (d : List ℕ) (w a : ℕ) (xs : List ℕ) → sets (set d w a) (w + 1) xs ≡ sets d w (a ∷ xs)
+one_then d w a xs = ap (λ (n : ℕ). sets (set d w a) n xs) (add-one w)
 
 -- a run stored from the start on, and the rest of the area
 pub stored_first : (bytes area : List ℕ) → length bytes ≤ length area → sets area 0 bytes ≡ bytes ++ drop (length bytes) area
 stored_first bytes area h = sets-eq bytes area 0 (omega arith) ∙ ap (λ (n : ℕ). bytes ++ drop n area) (zero-add (length bytes))
 
--- a run copied into its place
-pub copied : (area bytes : List ℕ) (at count : ℕ) → count ≡ length bytes → at + length bytes ≤ length area → take at area ++ (bytes ++ drop count (drop at area)) ≡ sets area at bytes
-copied area bytes at count e h =
-    ap (λ (l : List ℕ). take at area ++ (bytes ++ l)) (ap (λ (n : ℕ). drop n (drop at area)) e ∙ drop-drop (length bytes) at area)
+-- a run stored at the start of what is left from a position on
+pub stored_from : (area bytes : List ℕ) (at : ℕ) → at + length bytes ≤ length area
+    → put_mid at (length area - at) area (sets (mid_of at (length area - at) area) 0 bytes) ≡ sets area at bytes
+stored_from area bytes at h =
+    ap (λ (l : List ℕ). take at area ++ (sets l 0 bytes ++ drop (length area - at) (drop at area))) (take_rest area at)
+    ∙ ap (λ (l : List ℕ). take at area ++ (sets (drop at area) 0 bytes ++ l)) (drop_of_length-le (drop at area) (simp length-drop (omega arith)))
+    ∙ ap (λ (l : List ℕ). take at area ++ l) (append-nil (sets (drop at area) 0 bytes) ∙ stored_first bytes (drop at area) (simp length-drop (omega arith)))
+    ∙ ap (λ (l : List ℕ). take at area ++ (bytes ++ l)) (drop-drop (length bytes) at area)
     ∙ sym (append_assoc (take at area) bytes (drop (at + length bytes) area)) ∙ sym (sets-eq bytes area at h)

@@ -1,7 +1,7 @@
 // The bytes of an answer record, and writing them into an area. `specs/` says what the bytes are.
 #![tactic(auto)]
 
-ghost use Rattle.std.specs.Prelude.{◌≡◌, ◌+◌, ◌≤◌, length};
+ghost use Rattle.std.specs.Prelude.{◌≡◌, ◌≤◌, length};
 ghost use Rattle.std.proofs.lemmas.List.Edits.{sets};
 ghost use Rattle.judge.specs.Answers.{time_numbers};
 ghost use Rattle.reply.specs.AnswerBytes.{big_endian, body_bytes, reply_bytes};
@@ -34,53 +34,54 @@ pub fn reply_length(reply: Option<Result<Verdict, Refusal>>) -> usize
 }
 
 // A number's low four bytes, the most significant first.
-fn write_number(area: &mut [u8], at: usize, n: u64)
-    requires { at + 4 ≤ length area.old }
-    ensures { area.new ≡ sets area.old at (big_endian n) }
+fn write_number(area: &mut [u8], n: u64)
+    requires { 4 ≤ length area.old }
+    ensures { area.new ≡ sets area.old 0 (big_endian n) }
 {
-    area[at..at + 4].copy_from_slice(&n.to_be_bytes()[4..]);
+    area[..4].copy_from_slice(&n.to_be_bytes()[4..]);
 }
 
-fn write_time(area: &mut [u8], at: usize, time: Time)
-    requires { at + 12 ≤ length area.old }
-    ensures { area.new ≡ sets area.old at (body_bytes 66 (time_numbers time)) }
+// The numbers in the record's order. A loop over them would have an array of them beside it, and places 4 apart.
+fn write_time(area: &mut [u8], time: Time)
+    requires { 12 ≤ length area.old }
+    ensures { area.new ≡ sets area.old 0 (body_bytes 66 (time_numbers time)) }
 {
-    write_number(area, at, time.seconds);
-    write_number(area, at + 4, time.remainder);
-    write_number(area, at + 8, time.divisor);
+    write_number(area, time.seconds);
+    write_number(&mut area[4..], time.remainder);
+    write_number(&mut area[8..], time.divisor);
 }
 
-fn write_answer(area: &mut [u8], at: usize, answer: Result<Verdict, Refusal>)
-    requires { at + length (reply_bytes (Some answer)) ≤ length area.old }
-    ensures { area.new ≡ sets area.old at (reply_bytes (Some answer)) }
+fn write_answer(area: &mut [u8], answer: Result<Verdict, Refusal>)
+    requires { length (reply_bytes (Some answer)) ≤ length area.old }
+    ensures { area.new ≡ sets area.old 0 (reply_bytes (Some answer)) }
 {
     match answer {
         Ok(Verdict::Clear(sides)) => {
-            area[at] = CLEAR;
-            area[at + 1] = sides_number(sides);
+            area[0] = CLEAR;
+            area[1] = sides_number(sides);
         }
         Ok(Verdict::Conflict(time)) => {
-            area[at] = CONFLICT;
-            write_time(area, at + 1, time);
+            area[0] = CONFLICT;
+            write_time(&mut area[1..], time);
         }
         Ok(Verdict::Conflicts(lower, upper)) => {
-            area[at] = CONFLICTS;
-            write_time(area, at + 1, lower);
-            write_time(area, at + 13, upper);
+            area[0] = CONFLICTS;
+            write_time(&mut area[1..], lower);
+            write_time(&mut area[13..], upper);
         }
         Err(why) => {
-            area[at] = REFUSED;
-            area[at + 1] = why.number();
+            area[0] = REFUSED;
+            area[1] = why.number();
         }
     }
 }
 
-// What a record is answered, if anything.
-pub fn write_reply(area: &mut [u8], at: usize, reply: Option<Result<Verdict, Refusal>>)
-    requires { at + length (reply_bytes reply) ≤ length area.old }
-    ensures { area.new ≡ sets area.old at (reply_bytes reply) }
+// What a record is answered, if anything, from the area's start on.
+pub fn write_reply(area: &mut [u8], reply: Option<Result<Verdict, Refusal>>)
+    requires { length (reply_bytes reply) ≤ length area.old }
+    ensures { area.new ≡ sets area.old 0 (reply_bytes reply) }
 {
     if let Some(answer) = reply {
-        write_answer(area, at, answer);
+        write_answer(area, answer);
     }
 }

@@ -1,40 +1,29 @@
 -- A point is accepted exactly if its question is and its second is at most 600, and else the question's refusal comes first. Assumes nothing.
-use Rattle.std.specs.Prelude.{Result, ⊤, Err, Ok}
-use mathlib.Core.Path.{◌≡◌, refl, ◌∙◌}
-use mathlib.Core.Bool.{Bool, true, false, cond}
+use Rattle.std.specs.Prelude.{Err, Ok}
+use mathlib.Core.Path.{◌≡◌, ◌∙◌}
 use mathlib.Core.List.{[], ◌∷◌}
 use Prim.Native.Nat.{ℕ, ◌≤◌, ◌<◌}
-use native.Mathlib.Omega.{arith}
 use lib.Dec.{leb}
-use borrow.Author.Tests.{leb-true, le-leb, lt-leb}
-use Rattle.integers.proofs.Branches.{picks_yes, picks_no}
+use borrow.Author.Tests.{le-leb, lt-leb}
+use Rattle.std.proofs.lemmas.Bool.{cond-true, cond-false}
 use Rattle.question.specs.declared.Encounter.{Encounter}
 use Rattle.question.specs.declared.Settings.{Settings}
 use Rattle.question.specs.declared.Question.{Question}
 use Rattle.question.specs.Refusals.{check, plain_checks, refusal}
-use Rattle.refusals.proofs.TestedInOrder.{accepted_first, refused_first, both_accept}
+use Rattle.refusals.proofs.TestedInOrder.{accepted_first, refused_first}
 use Rattle.pieces.specs.Pieces.{last_second}
 use Rattle.screen.specs.Points.{point_refusal}
 use Rattle.question.specs.declared.refusal.Refusal.{Refusal}
 
 module _ (x : Encounter) (y : Settings) (z : Question) (t : ℕ) where
-  -- accepted: the question is accepted, and the second is at most 600
-  pub accepted_point : point_refusal x y z t ≡ Ok tt → (refusal x y z ≡ Ok tt) × (t ≤ last_second)
-  unfolding point_refusal refusal
-  accepted_point e = let b = both_accept (plain_checks x y z) (check Refusal.TimesOutside (leb t last_second) ∷ []) e in (b.0, within (leb t last_second) refl b.1)
-    where
-      within : (b : Bool) → leb t last_second ≡ b → ◌≡◌ {A = Result ⊤ Refusal} (cond b (Ok tt) (Err Refusal.TimesOutside)) (Ok tt) → t ≤ last_second
-      within true e f = leb-true t last_second e
-      within false e f = let z : ◌≡◌ {A = ℕ} 0 1 = cc in absurd (omega arith)
-
   pub in_time_lem : refusal x y z ≡ Ok tt → t ≤ last_second → point_refusal x y z t ≡ Ok tt
   unfolding point_refusal refusal
-  in_time_lem e h = accepted_first (plain_checks x y z) (check Refusal.TimesOutside (leb t last_second) ∷ []) e ∙ picks_yes (leb t last_second) (Ok tt) (Err Refusal.TimesOutside) (le-leb t last_second h)
+  in_time_lem e h = accepted_first (plain_checks x y z) (check Refusal.TimesOutside (leb t last_second) ∷ []) e ∙ cond-true (leb t last_second) (Ok tt) (Err Refusal.TimesOutside) (le-leb t last_second h)
 
   -- an accepted question's second above 600 gets 6
   pub late_second : refusal x y z ≡ Ok tt → last_second < t → point_refusal x y z t ≡ Err Refusal.TimesOutside
   unfolding point_refusal refusal
-  late_second e h = accepted_first (plain_checks x y z) (check Refusal.TimesOutside (leb t last_second) ∷ []) e ∙ picks_no (leb t last_second) (Ok tt) (Err Refusal.TimesOutside) (lt-leb t last_second h)
+  late_second e h = accepted_first (plain_checks x y z) (check Refusal.TimesOutside (leb t last_second) ∷ []) e ∙ cond-false (leb t last_second) (Ok tt) (Err Refusal.TimesOutside) (lt-leb t last_second h)
 
   -- a refused question keeps its number, whatever the second
   pub refused_point : (n : Refusal) → refusal x y z ≡ Err n → point_refusal x y z t ≡ Err n

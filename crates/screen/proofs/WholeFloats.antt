@@ -53,6 +53,7 @@ signed_product false true a (suc b) = refl
 signed_product false false a b = refl
 
 -- ---- sums
+-- (the library's `sub-mul` is of a ring, where b + (a − b) is a; naturals have `mul-sub` alone)
 difference_times : (a b c : ℕ) → (a - b) * c ≡ a * c - b * c
 difference_times a b c = mul_comm (a - b) c ∙ mul-sub c a b ∙ ap₂ (λ (x y : ℕ). x - y) (mul_comm c a) (mul_comm c b)
 
@@ -148,6 +149,7 @@ pub float_zero : float (pos 0) ≡ fin false 0 (pos 0)
 unfolding of_int
 float_zero = refl
 
+-- (docs/PORT.md names it: no proof cites it.)
 pub cast_exact : (z : ℤ) → nat_abs z ≤ 2 ^ 53 → T (in_float binary64 z)
 unfolding in_float
 cast_exact (pos n) h = le→leb n (2 ^ 53) h

@@ -1,5 +1,5 @@
 -- "The lesson screen draws the lower path beside the verdict": a drawing is a list of pieces with their times, or a refusal.
-use Rattle.std.specs.Prelude.{cond, List, [], ◌∷◌, ℕ, pos, Err, Ok, Result, ⊤}
+use Rattle.std.specs.Prelude.{cond, List, [], ◌∷◌, pos, Err, Ok, Result, ⊤}
 use Rattle.instant.specs.Lowest.{lowest}
 use Rattle.path.specs.declared.SensedQuestion.{SensedQuestion}
 use Rattle.question.specs.declared.Encounter.{Encounter}

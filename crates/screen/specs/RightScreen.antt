@@ -41,7 +41,7 @@ pub record RightDrawing (s : SensedQuestion) (l : List DrawnPiece) : Type 0 wher
 
 abbrev pub RightContent : SensedQuestion → (Result (List DrawnPiece) Refusal) → Type 0
 RightContent s (Ok l) = RightDrawing s l
-RightContent s (Err n) = ⊥
+RightContent s (Err why) = ⊥
 
 -- "every operation on the way is exact": each product and each sum of a piece at the second t
 abbrev pub ExactOnTheWay : WholePiece → Piece → ℤ → Float → Type 0
@@ -64,4 +64,4 @@ pub record RightPoint (s : SensedQuestion) (t : ℕ) (p : ScreenPoint) : Type 0 
 
 abbrev pub RightPointAnswer : SensedQuestion → ℕ → Result ScreenPoint Refusal → Type 0
 RightPointAnswer s t (Ok p) = RightPoint s t p
-RightPointAnswer s t (Err n) = ⊥
+RightPointAnswer s t (Err why) = ⊥

@@ -45,7 +45,8 @@ pub struct ScreenPoint {
     pub height: f64,
 }
 
-// Every whole number of a piece is below 2⁵³, so its cast is exact.
+// Every whole number of a piece is below 2⁵³, so its cast is exact. (Neither this nor `drawn_piece` is a `From`, which could not ask for these sizes: a `WholePiece`
+// does not keep them, as definitions make one from any question.)
 fn float_piece(p: WholePiece) -> Piece
     requires { PieceSizes p }
     ensures { result ≡ float_piece p }

@@ -15,6 +15,7 @@ use Rattle.path.specs.declared.Side.TheVariants.{Lower}
 use Rattle.path.specs.Letters.{a}
 use Rattle.path.specs.Window.{distance_at}
 use Rattle.path.specs.inner.Sizes.{Sizes, InReach}
+use Rattle.path.proofs.Reach.{lower_in_upper}
 use Rattle.window.proofs.Fields.{most_distance, distance_size, read_radius}
 use Rattle.conflict.proofs.Fields.{numbers}
 use Rattle.flight.specs.inner.Clamped.{most_flight_speed, most_flight_height, most_gained}
@@ -30,7 +31,7 @@ pub second_reach : (n : ℕ) → n ≤ max_flight_seconds → InReach Lower n 1
 second_reach n h = record { n_hi = omega arith; m_lo = omega arith; m_hi = omega arith }
 
 abbrev pub read_ahead : (s : SensedQuestion) (n : ℕ) → Sizes s → n ≤ max_flight_seconds → Reading (distance_at s n 1)
-read_ahead s n z h = bounded_absolute (distance_at s n 1) most_distance (distance_size s n 1 z (second_reach n h))
+read_ahead s n z h = bounded_absolute (distance_at s n 1) most_distance (distance_size s n 1 z (lower_in_upper (second_reach n h)))
 
 -- ---- a motion
 module _ (motion : Motion) (z : MotionSizes motion) where

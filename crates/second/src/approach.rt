@@ -10,7 +10,8 @@ ghost use Rattle.second.specs.inner.SecondSizes.{ApproachSizes};
 
 use flight::Part;
 
-// An edge to reach, measured from the height at the second's first instant, and the quadratic that is to reach it, 2·v·τ + g·τ².
+// An edge to reach, measured from the height at the second's first instant, and the quadratic that is to reach it, 2·v·τ + g·τ². (It holds no Motion: it has
+// the distance of the edge in place of the height, and so other sizes.)
 #[derive(Clone, Copy)]
 pub struct Approach {
     pub edge: i64,

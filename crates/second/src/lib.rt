@@ -32,7 +32,8 @@ pub struct Motion {
     pub acceleration: i64,
 }
 
-// The second that begins at n, of a flight within the limits. (Its sizes don't stand at Motion: `flown`'s definitions build motions of any flight.)
+// The second that begins at n, of a flight within the limits. (Its sizes don't stand at Motion: `flown`'s definitions build motions of any flight. The question
+// stands beside it and not in it: it is one for the whole flight, and each of its seconds would carry a copy.)
 #[derive(Clone, Copy)]
 pub struct Second {
     pub n: u64,

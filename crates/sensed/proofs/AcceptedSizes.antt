@@ -21,7 +21,8 @@ use Rattle.question.specs.declared.Encounter.{Encounter}
 use Rattle.question.specs.declared.Settings.{Settings}
 use Rattle.question.specs.declared.Question.{Question}
 use Rattle.question.specs.Refusals.{is_number, sense_of, two_sided, refusal}
-use Rattle.question.proofs.WithinLimits.{Between, between, or_else, within_limits, upper_limits}
+use Rattle.std.proofs.Math.Facts.{or_yes}
+use Rattle.question.proofs.WithinLimits.{Between, between, within_limits, upper_limits}
 use Rattle.sensed.specs.Sensed.{limit_of, sensed_question}
 
 -- w × z is as large as z
@@ -58,7 +59,7 @@ limit_size l t = go (is_number no_limit l) refl
     go false e = ⊎_elim
         (λ h. max0_le l max_limit (between (pos 0) (pos max_limit) l h).to)
         (λ h. absurd (subst T e h))
-        (or_else (limit_within l) (is_number no_limit l) t)
+        (or_yes (limit_within l) (is_number no_limit l) t)
 
 module _ (x : Encounter) (y : Settings) (z : Question) (e : refusal x y z ≡ Ok tt) where
   pub accepted_sizes : Sizes (sensed_question x y z)

@@ -1,4 +1,6 @@
 // An accepted question in its sense. `specs/` says what that is.
+//
+// The question is made inline: called, this and `refusals`' tests cost some 90 instructions a verdict (`compare/bench`).
 #![tactic(auto)]
 
 ghost use Rattle.std.specs.Prelude.{◌≡◌};
@@ -20,7 +22,7 @@ struct Motion {
     upper_target: i64,
 }
 
-// w: +1 for climb, −1 for descend.
+// w: +1 for climb, −1 for descend. It is document 01's factor of heights and speeds; a sense's number in questions is its discriminant.
 pub fn sign_of(sense: Sense) -> i64
     ensures { result ≡ sign sense }
 {
@@ -56,6 +58,7 @@ fn sensed_motion(asked: AcceptedQuestion) -> Motion
 }
 
 // An accepted question, with heights and speeds in its sense.
+#[inline(always)]
 fn in_sense(asked: AcceptedQuestion) -> SensedQuestion
     ensures { result ≡ sensed_question asked.encounter asked.settings asked.question }
 {
@@ -81,6 +84,7 @@ fn in_sense(asked: AcceptedQuestion) -> SensedQuestion
 }
 
 // The same, which the limits keep small.
+#[inline(always)]
 pub fn sensed_question(asked: AcceptedQuestion) -> SizedQuestion
     ensures { result.sensed ≡ sensed_question asked.encounter asked.settings asked.question }
 {

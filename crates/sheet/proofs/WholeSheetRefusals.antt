@@ -9,7 +9,7 @@ use native.Mathlib.Omega.{arith}
 use borrow.Author.Tests.{le-leb, lt-leb}
 use lib.Dec.{leb}
 use lib.ListN.{length}
-use Rattle.integers.proofs.Branches.{picks_yes, picks_no}
+use Rattle.std.proofs.lemmas.Bool.{cond-true, cond-false}
 use Rattle.record.specs.SheetCheck.{sheet_check}
 use Rattle.sheet.specs.WholeSheet.{sheet_answer, outcome_for, outcome, area_after, area_for}
 use Rattle.sheet.proofs.AnswerBound.{sheet_answer_short}
@@ -28,10 +28,10 @@ module _ (s : List ℕ) (room : ℕ) (accepted : sheet_check s ≡ Ok tt) where
   by_length = ap (λ (c : Result ⊤ Refusal). outcome_for c (length (sheet_answer s)) room) accepted
 
   pub too_short : room < length (sheet_answer s) → outcome s room ≡ Err Refusal.AreaTooShort
-  too_short h = by_length ∙ picks_no _ _ _ (lt-leb _ _ h)
+  too_short h = by_length ∙ cond-false _ _ _ (lt-leb _ _ h)
 
   pub long_enough : length (sheet_answer s) ≤ room → outcome s room ≡ Ok (length (sheet_answer s))
-  long_enough h = by_length ∙ picks_yes _ _ _ (le-leb _ _ h)
+  long_enough h = by_length ∙ cond-true _ _ _ (le-leb _ _ h)
 
 -- "an answer area of 65,536 bytes, more than any sheet can fill"
 pub ample_area : (s : List ℕ) → sheet_check s ≡ Ok tt → outcome s 65536 ≡ Ok (length (sheet_answer s))

@@ -1,13 +1,12 @@
 // The replies to the records of a sheet that has no fault, in order.
 
-ghost use Rattle.std.specs.Prelude.{◌≡◌, Ok};
+ghost use Rattle.std.specs.Prelude.{◌≡◌};
 ghost use Rattle.std.specs.Iterator.{YieldsFirst, item_count};
-ghost use Rattle.record.specs.SheetCheck.{sheet_check};
 ghost use Rattle.sheet.specs.inner.Replies.{sheet_replies, replies_left};
 
 use answering::State;
 use question::Refusal;
-use record::Records;
+use record::{CheckedSheet, Records};
 use verdict::Verdict;
 
 // The records to come, and the state that those before them left.
@@ -18,9 +17,8 @@ pub(crate) struct Replies<'a> {
 }
 
 impl<'a> Replies<'a> {
-    pub(crate) fn of(sheet: &'a [u8]) -> Replies<'a>
-        requires { sheet_check sheet.now ≡ Ok tt }
-        ensures { replies_left result ≡ sheet_replies sheet.now }
+    pub(crate) fn of(sheet: CheckedSheet<'a>) -> Replies<'a>
+        ensures { replies_left result ≡ sheet_replies sheet.entry.bytes.now }
     {
         Replies {
             records: Records::of(sheet),

@@ -3,11 +3,10 @@
 // `cargo run --profile checked --bin sheets ../crates/sheets`, run in `compare/`, writes the files, `args` and `stdout`: the answers are the independent implementation's.
 #![tactic(auto)]
 
-use program::{program_output, read_room};
-use reading::{NAME_ROOM, argument, argument_count, open_named, read_full, say_unread};
+use program::answer_read;
+use reading::{each_argument, open_named, say_unread};
 use std::io;
-use std::io::Read;
-use std::rt::{Env, Files};
+use std::rt::Files;
 
 fn print_bytes(out: &impl Print, bytes: &[u8]) -> io::Result<()> {
     for byte in bytes {
@@ -16,22 +15,14 @@ fn print_bytes(out: &impl Print, bytes: &[u8]) -> io::Result<()> {
     Ok(())
 }
 
-fn answer_file<P: Print, R: Read>(out: &P, file: &mut R) -> io::Result<()> {
-    let mut sheet = read_room();
-    let read = read_full(file, &mut sheet)?;
-    let output = program_output(&sheet[..read]);
-    print_bytes(out, &output.area[..output.length])
-}
-
-fn answer_argument<R: Print + Eprint + Files + Env>(rt: &R, k: usize) -> io::Result<()> {
-    let mut name = [0u8; NAME_ROOM];
-    let length = argument(rt, k, &mut name);
-    let name = &name[..length];
+// (As `words` does, but for what is written. One function of both would hand the open file to a closure, whose parameter is a type of each host's own.)
+fn answer_named<R: Print + Eprint + Files>(rt: &R, name: &[u8]) -> io::Result<()> {
     match open_named(rt, name) {
         Ok(mut file) => {
+            // By `write_all`, as a file's name is bytes, perhaps no text.
             rt.write_all(name)?;
             print!(rt; " ")?;
-            answer_file(rt, &mut file)?;
+            print_bytes(rt, answer_read(&mut file)?.bytes())?;
             println!(rt; "")
         }
         Err(error) => say_unread(rt, name, error),
@@ -39,8 +30,5 @@ fn answer_argument<R: Print + Eprint + Files + Env>(rt: &R, k: usize) -> io::Res
 }
 
 fn main(rt: HostRuntime) -> io::Result<()> {
-    for k in 1..argument_count(&rt) {
-        answer_argument(&rt, k)?;
-    }
-    Ok(())
+    each_argument(&rt, &mut |name| answer_named(&rt, name))
 }

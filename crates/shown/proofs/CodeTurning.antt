@@ -1,12 +1,10 @@
 -- The turning instant as the code finds it, by its branch on q. Assumes nothing.
-use Rattle.std.specs.Prelude.{None, Some}
+use Rattle.std.specs.Prelude.{Some}
 use mathlib.Core.Path.{◌≡◌, refl, ap}
 use mathlib.Core.List.{[], ◌∷◌}
 use Prim.Native.Nat.{ℕ, ◌+◌, ◌*◌}
-use native.Mathlib.Omega.{arith}
-use lib.Dec.{ltb→lt}
 use lib.IntN.{ℤ, pos, negsuc, neg_ℤ, ◌-ℤ◌}
-use lib.Signed.{◌≤ℤ◌, ◌<ℤ◌}
+use lib.Signed.{◌≤ℤ◌}
 use Rattle.integers.specs.Extremes.{max0}
 use Rattle.integers.proofs.Quotation.{quote}
 use Rattle.integers.proofs.Certificates.{ring}
@@ -14,10 +12,6 @@ use Rattle.instant.specs.Order.{◌÷◌}
 use Rattle.path.specs.Instants.{turning_instant}
 
 module _ (a d : ℕ) (x : ℤ) where
-  pub no_turning : (q : ℤ) → q <ℤ pos 0 → None ≡ turning_instant q a d x
-  no_turning (pos q) h = absurd (omega (arith, ltb→lt q 0 h.lt))
-  no_turning (negsuc q) h = refl
-
   pub turning : (q : ℤ) → pos 0 ≤ℤ q → Some (d * a + max0 (neg_ℤ x) ÷ a) ≡ turning_instant q a d x
   turning (pos q) h = refl
   turning (negsuc q) h = absurd h.le

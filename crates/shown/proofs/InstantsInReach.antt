@@ -23,13 +23,13 @@ use Rattle.path.specs.declared.Side.TheVariants.{Lower, Upper}
 use Rattle.path.specs.Paths.{u_d}
 use Rattle.path.specs.Window.{window_end}
 use Rattle.path.specs.Instants.{Among, turning_instant, path_instants, instants}
-use Rattle.path.specs.inner.Sizes.{max_speed_after_delay, Sizes, Sized, farthest, InReach, search_end}
+use Rattle.path.specs.inner.Sizes.{max_speed_after_delay, Sizes, Sized, farthest, InReach, Compared, search_end}
 use Rattle.path.proofs.Membership.{among_one, among_either}
 use Rattle.path.proofs.WindowEnds.{endless_start}
+use Rattle.path.proofs.Reach.{side_reach, compared_in_upper}
 use Rattle.path.proofs.SideSizes.{sizes_of}
 use Rattle.path.proofs.SideProfiles.{Hit, Endless, conflict_instant, reaches_end}
-use Rattle.conflict.proofs.Fields.{side_reach}
-use Rattle.window.proofs.EndsInReach.{Near, near_sized, second_near, window_start_near, window_end_near}
+use Rattle.window.proofs.EndsInReach.{Near, second_near, window_start_near, window_end_near}
 use Rattle.shown.specs.TimeRule.{Picks}
 
 -- ---- d and the turning instant
@@ -75,13 +75,18 @@ last_small : (side : Side) (s : SensedQuestion) → Sized side s → search_end 
 last_small Lower s z = omega (arith, z.d_hi)
 last_small Upper s z = omega arith
 
--- ---- a moment that the rule picks
-pub picked_sized : (side : Side) (s : SensedQuestion) → Sized side s → (t : Instant) → Picks side s (Some t) → SizedInstant t
-picked_sized side s z t (inl e) = near_sized t (instants_near side s (sizes_of side s z) t e.among)
-picked_sized side s z t (inr f) = ⊎_elim
-    (λ (l : t.n ≤ search_end side s). let m = f.whole in record { n = omega (arith, last_small side s z); m = omega arith })
+-- ---- a moment that the rule picks: near, or a whole second that a search finds
+pub picked_compared : (side : Side) (s : SensedQuestion) → Sized side s → (t : Instant) → Picks side s (Some t) → Compared Lower t.n t.m
+picked_compared side s z t (inl e) = inl (instants_near side s (sizes_of side s z) t e.among)
+picked_compared side s z t (inr f) = ⊎_elim
+    (λ (l : t.n ≤ search_end side s). let m = f.whole in inr (record { n_hi = omega (arith, last_small side s z); m_lo = omega arith; m_hi = omega arith }, m))
     (λ (l : search_end side s < t.n). absurd (⊎_elim
     (λ (h : Hit side s). f.none h.t h.among h.conflict)
     (λ (e : Endless side s). f.first (search_end side s) l (record { window = e.inside (search_end side s) (endless_start s e.endless (search_end side s)); vertical = reaches_end side s z e.approaches }))
     (conflict_instant side s z t.n 1 (omega arith) f.conflict)))
     (split≤ t.n (search_end side s))
+
+pub picked_sized : (side : Side) (s : SensedQuestion) → Sized side s → (t : Instant) → Picks side s (Some t) → SizedInstant t
+picked_sized side s z t h =
+    let reach = compared_in_upper Lower (picked_compared side s z t h) in
+    record { n = omega (arith, reach.n_hi); m = omega (arith, reach.m_hi) }

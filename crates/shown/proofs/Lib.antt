@@ -1,3 +1,4 @@
+pub mod SameTests
 pub mod FirstOf
 pub mod Steps
 pub mod OpenWindow

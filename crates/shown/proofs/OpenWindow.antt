@@ -10,7 +10,9 @@ use mathlib.Core.Logic.{inl, inr, ⊎_elim}
 use Prim.Native.Nat.{ℕ, ◌+◌, ◌*◌, ◌<◌, ◌≤◌}
 use native.Mathlib.Omega.{arith}
 use lib.IntN.{ℤ, pos, negsuc, neg_ℤ}
+use lib.Ieee.Bits.{is_true}
 use lib.Signed.{◌≤ℤ◌, lt_z_yes, clash_ℤ}
+use denote.Floats.{passes}
 use Rattle.std.specs.Bool.{then_some}
 use Rattle.integers.specs.Extremes.{max0}
 use Rattle.integers.proofs.Certificates.{pos≤, split<}
@@ -36,7 +38,7 @@ use Rattle.shown.specs.TimeShown.{approaches, searches, searched, shown_from, ti
 use Rattle.shown.specs.declared.LowestPoint.{LowestPoint}
 use Rattle.shown.specs.declared.LowestPoint.TheVariants.{Passed, Inside, Beyond}
 use Rattle.shown.specs.inner.Steps.{Opened, StartTried, shown_at, turning_of, lowest_by, lowest_point}
-use Rattle.shown.proofs.Steps.{yes, no, true_of, false_of, inside, outside_clear, hit, miss, no_search, only_search, ended, searches_is}
+use Rattle.shown.proofs.Steps.{no, false_of, inside, outside_clear, hit, miss, no_search, only_search, ended, searches_is}
 
 -- where no instant of a list has a conflict, and nothing is searched, nothing is shown
 none_shown : (side : Side) (s : SensedQuestion) (l : List Instant) → ((x : Instant) → Among x l → ¬ Conflict side s x.n x.m) → searches side s ≡ false → None ≡ shown_from side s l
@@ -80,12 +82,12 @@ module _ (s : SensedQuestion) where
   -- ---- and, with it, its end, or without one every whole second
   module _ (o : Opened s) where
     start_window : Window s (window_start s).n (window_start s).m
-    start_window = (window_decided s (window_start s).n (window_start s).m).0 (yes (in_window s (window_start s).n (window_start s).m) o)
+    start_window = (window_decided s (window_start s).n (window_start s).m).0 (passes (in_window s (window_start s).n (window_start s).m) o)
 
     pub end_in : (t : Instant) → window_end s ≡ Some t → in_window s t.n t.m ≡ true
     end_in t e =
         let i : Among t (option_to_list (window_end s)) = subst (λ (m : Option Instant). Among t (option_to_list m)) (sym e) (inl refl) in
-        true_of (in_window s t.n t.m) ((window_decided s t.n t.m).1
+        is_true (in_window s t.n t.m) ((window_decided s t.n t.m).1
         (between_window s (window_start s).n (window_start s).m t.n t.m (window_start_divisor s) start_window (record {
           after = (window_between s (window_start s).n (window_start s).m start_window).before t i;
           before = λ x j. among_one (λ y. t ≼ y) t x (≼_refl t) (subst (λ (m : Option Instant). Among x (option_to_list m)) e j);
@@ -186,7 +188,7 @@ module _ (s : SensedQuestion) where
     -- beyond the edge at its lowest
     pub lowest_beyond : in_window s t.n t.m ≡ true → not_beyond Lower s t.n t.m ≡ false → None ≡ shown_from Lower s (t ∷ option_to_list (window_end s))
     lowest_beyond w h = risen_shown t positive (≼_refl t) (λ c. no (not_beyond Lower s t.n t.m) h ((not_beyond_decided Lower s t.n t.m).1 c)) (t ∷ option_to_list (window_end s))
-        (λ y i. (divisors y i, λ c. ⊎_elim (λ g. subst (λ (v : Instant). t ≼ v) (sym g) (≼_refl t)) ((window_between s t.n t.m ((window_decided s t.n t.m).0 (yes (in_window s t.n t.m) w))).before y) i))
+        (λ y i. (divisors y i, λ c. ⊎_elim (λ g. subst (λ (v : Instant). t ≼ v) (sym g) (≼_refl t)) ((window_between s t.n t.m ((window_decided s t.n t.m).0 (passes (in_window s t.n t.m) w))).before y) i))
 
 -- what is shown after d, by the path's lowest point
 abbrev pub after_lowest : SensedQuestion → LowestPoint → Option Instant

@@ -9,7 +9,9 @@ use mathlib.Core.Logic.{⊎_elim}
 use Prim.Native.Nat.{ℕ, zero, suc, ◌+◌, ◌<◌, ◌≤◌}
 use native.Mathlib.Omega.{arith}
 use lib.Dec.{T}
+use lib.Ieee.Bits.{is_true}
 use lib.Signed.{lt_z_yes}
+use denote.Floats.{passes}
 use Rattle.integers.proofs.Laws.{split≤}
 use Rattle.instant.specs.declared.Instant.{Instant}
 use Rattle.instant.specs.Order.{◌÷◌}
@@ -25,19 +27,13 @@ use Rattle.path.proofs.Decisions.{window_decided, not_beyond_decided}
 use Rattle.path.proofs.WindowEnds.{between_window, endless_start_zero, endless_start}
 use Rattle.path.proofs.SideProfiles.{Approaches, reaches_end}
 use Rattle.path.proofs.WholeSeconds.{none_before}
+use Rattle.shown.proofs.SameTests.{second_same}
 use Rattle.shown.specs.TimeShown.{first_of, first_second, or_else, approaches, searches, seconds_tried, searched, shown_from}
 use Rattle.shown.specs.inner.Steps.{StartTried, InstantsTried, Searchable, first_reached}
 
 -- ---- tests as equations
-pub yes : (b : Bool) → b ≡ true → T b
-yes b e = subst T (sym e) tt
-
 pub no : (b : Bool) → b ≡ false → ¬ T b
 no b e t = subst T e t
-
-pub true_of : (b : Bool) → T b → b ≡ true
-true_of true t = refl
-true_of false t = absurd t
 
 pub false_of : (b : Bool) → ¬ T b → b ≡ false
 false_of true f = absurd (f tt)
@@ -106,16 +102,12 @@ module _ (side : Side) (s : SensedQuestion) where
 
     -- every whole second is in the window where 0 is
     all_in : in_window s 0 1 ≡ true → (j : ℕ) → in_window s j 1 ≡ true
-    all_in w j = true_of (in_window s j 1) ((window_decided s j 1).1
-        (between_window s 0 1 j 1 (omega arith) ((window_decided s 0 1).0 (yes (in_window s 0 1) w))
+    all_in w j = is_true (in_window s j 1) ((window_decided s j 1).1
+        (between_window s 0 1 j 1 (omega arith) ((window_decided s 0 1).0 (passes (in_window s 0 1) w))
         (record { after = endless_start s endless j; before = λ t i. absurd (subst (λ (m : Option Instant). Among t (option_to_list m)) endless i) })))
 
     at_second : in_window s 0 1 ≡ true → (j : ℕ) → not_beyond side s j 1 ≡ in_conflict side s j 1
     at_second w j = inside j 1 (all_in w j)
-
-    second_same : (test other : ℕ → Bool) → ((j : ℕ) → test j ≡ other j) → (f i : ℕ) → first_second test f i ≡ first_second other f i
-    second_same test other h zero i = refl
-    second_same test other h (suc f) i = ap₂ (λ (b : Bool) (m : Option Instant). elim b [ true ↦ Some (i ÷ 1) | false ↦ m ]) (h i) (second_same test other h f (suc i))
 
     found_is : (f : ℕ) (b : Bool) → b ≡ true → ((j : ℕ) → not_beyond side s j 1 ≡ in_conflict side s j 1) → first_second (λ j. not_beyond side s j 1) f 0 ≡ elim b [ true ↦ first_second (λ j. in_conflict side s j 1) f 0 | false ↦ None ]
     found_is f true e h = second_same (λ j. not_beyond side s j 1) (λ j. in_conflict side s j 1) h f 0
@@ -142,8 +134,8 @@ pub record Bracket (side : Side) (s : SensedQuestion) (lo hi : ℕ) : Type 0 whe
   pub reached : not_beyond side s hi 1 ≡ true
 
 approaching : (side : Side) (s : SensedQuestion) → approaches side s ≡ true → Approaches side s
-approaching Lower s e = lt_z_yes (yes (approaches Lower s) e)
-approaching Upper s e = lt_z_yes (yes (approaches Upper s) e)
+approaching Lower s e = lt_z_yes (passes (approaches Lower s) e)
+approaching Upper s e = lt_z_yes (passes (approaches Upper s) e)
 
 start_before_end : (side : Side) (s : SensedQuestion) → search_start side s < search_end side s
 start_before_end Lower s = omega arith
@@ -155,7 +147,7 @@ bracket_start side s z h = record {
   less = start_before_end side s;
   till = omega arith;
   clear = h.start;
-  reached = true_of (not_beyond side s (search_end side s) 1) ((not_beyond_decided side s (search_end side s) 1).1 (reaches_end side s z (approaching side s h.approach)));
+  reached = is_true (not_beyond side s (search_end side s) 1) ((not_beyond_decided side s (search_end side s) 1).1 (reaches_end side s z (approaching side s h.approach)));
 }
 
 first_is : (test : ℕ → Bool) (f i r : ℕ) → i ≤ r → r < i + f → ((j : ℕ) → j < r → test j ≡ false) → test r ≡ true → first_second test f i ≡ Some (r ÷ 1)

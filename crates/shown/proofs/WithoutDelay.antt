@@ -5,11 +5,10 @@ use Rattle.std.specs.Option.{is_none}
 use mathlib.Core.Path.{◌≡◌, refl, ap, ap₂}
 use mathlib.Core.Bool.{Bool, true, false, ◌&&◌}
 use mathlib.Core.List.{List, [], ◌∷◌}
-use Prim.Native.Nat.{ℕ, zero, suc}
+use Prim.Native.Nat.{ℕ}
 use lib.IntN.{ℤ, pos}
 use lib.Signed.{lt_z}
 use Rattle.instant.specs.declared.Instant.{Instant}
-use Rattle.instant.specs.Order.{◌÷◌}
 use Rattle.path.specs.declared.SensedQuestion.{SensedQuestion}
 use Rattle.path.specs.declared.Side.TheVariants.{Upper}
 use Rattle.path.specs.Letters.{d}
@@ -18,6 +17,7 @@ use Rattle.path.specs.Window.{window_end}
 use Rattle.path.specs.Instants.{instants}
 use Rattle.path.specs.inner.Tests.{in_window, in_conflict}
 use Rattle.path.proofs.WithoutDelay.{earlier_target, earlier_conflict, target_without_delay, conflict_without_delay}
+use Rattle.shown.proofs.SameTests.{second_same}
 use Rattle.shown.specs.TimeShown.{first_of, first_second, or_else, seconds_tried, searched, shown_from, time_shown}
 
 -- the rule for a test of the instants, in which the path's target is q
@@ -35,10 +35,6 @@ earlier_shown s = shown_by s (earlier_conflict s) (earlier_target s) (seconds_tr
 first_same : (test test' : Instant → Bool) → ((t : Instant) → test t ≡ test' t) → (l : List Instant) → first_of test l ≡ first_of test' l
 first_same test test' h [] = refl
 first_same test test' h (t ∷ l) = ap₂ (λ (b : Bool) (m : Option Instant). elim b as (λ _. (Option Instant)) [ true ↦ Some t | false ↦ m ]) (h t) (first_same test test' h l)
-
-second_same : (test test' : ℕ → Bool) → ((j : ℕ) → test j ≡ test' j) → (f i : ℕ) → first_second test f i ≡ first_second test' f i
-second_same test test' h zero i = refl
-second_same test test' h (suc f) i = ap₂ (λ (b : Bool) (m : Option Instant). elim b as (λ _. (Option Instant)) [ true ↦ Some (i ÷ 1) | false ↦ m ]) (h i) (second_same test test' h f (suc i))
 
 shown_same : (s : SensedQuestion) → d s ≡ 0 → (f : ℕ) → shown_by s (in_conflict Upper s) (upper_target s) f ≡ shown_by s (earlier_conflict s) (earlier_target s) f
 shown_same s none f =

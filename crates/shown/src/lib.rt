@@ -66,7 +66,8 @@ fn search_end(asked: SideQuestion) -> u64
     }
 }
 
-// The first whole second at which the path is not beyond the intruder: all seconds that follow one such are such, so the search halves.
+// The first whole second at which the path is not beyond the intruder: all seconds that follow one such are such, so the search halves. (A range of
+// seconds: there is no list for the library to search.)
 #[inline(always)]
 fn first_second(asked: SideQuestion) -> u64
     requires { Searchable asked.side asked.question.sensed }
@@ -85,7 +86,8 @@ fn first_second(asked: SideQuestion) -> u64
     hi
 }
 
-// What is left where the window has no end and no instant has a conflict.
+// What is left where the window has no end and no instant has a conflict. (What has been tried is a clause here and below: it is no property of the question,
+// and a type for each step would have to be built anew where the next instant has been tried.)
 #[inline(always)]
 fn from_search(asked: SideQuestion) -> Option<Instant>
     requires opened { Opened asked.question.sensed }
@@ -112,7 +114,8 @@ fn shown_at(asked: SideQuestion, t: Instant) -> Option<Instant>
     not_beyond(asked, t).then_some(t)
 }
 
-// The window's end is in the window where its start is; without an end the search is left.
+// The window's end is in the window where its start is; without an end the search is left. (That the window is open is a clause
+// here: `OpenQuestion`, below, names no side, and with one it would be a second `SideQuestion`.)
 #[inline(always)]
 fn from_end(asked: SideQuestion) -> Option<Instant>
     requires opened { Opened asked.question.sensed }
@@ -135,70 +138,81 @@ enum LowestPoint {
     Beyond,
 }
 
-#[tactic(auto, unfolding(crate::specs::inner::Steps::lowest_point))]
-fn lowest_point(question: SizedQuestion, start: Instant) -> LowestPoint
-    requires { start ≡ window_start question.sensed }
-    ensures { result ≡ lowest_point question.sensed }
-{
-    match turning_instant(question) {
-        Some(t) if no_later(t, start) => LowestPoint::Passed,
-        Some(t) if in_window(question, t) => LowestPoint::Inside(t),
-        _ => LowestPoint::Beyond,
-    }
+// A question whose window is not empty, and the window's start.
+#[derive(Clone, Copy)]
+struct OpenQuestion {
+    question: SizedQuestion,
+    start: Instant,
+    ghost starts: { start ≡ window_start question.sensed },
+    ghost opened: { Opened question.sensed },
 }
 
-// After d has been tried. Where the path has no conflict at its lowest, no later time has one.
-fn from_lowest(question: SizedQuestion, start: Instant) -> Option<Instant>
-    requires starts { start ≡ window_start question.sensed }
-    requires opened { Opened question.sensed }
-    requires tried { InstantsTried Lower question.sensed }
-    ensures { result ≡ shown_from Lower question.sensed (option_to_list (turning_of question.sensed) ++ option_to_list (window_end question.sensed)) }
-{
-    let lower = SideQuestion {
-        side: Side::Lower,
-        question,
-    };
-    match lowest_point(question, start) {
-        LowestPoint::Passed => None,
-        LowestPoint::Inside(t) => shown_at(lower, t),
-        LowestPoint::Beyond => from_end(lower),
+impl OpenQuestion {
+    #[tactic(auto, unfolding(crate::specs::inner::Steps::lowest_point))]
+    #[inline(always)]
+    fn lowest_point(self) -> LowestPoint
+        ensures { result ≡ lowest_point self.question.sensed }
+    {
+        let start = self.start;
+        match turning_instant(self.question) {
+            Some(t) if no_later(t, start) => LowestPoint::Passed,
+            Some(t) if in_window(self.question, t) => LowestPoint::Inside(t),
+            _ => LowestPoint::Beyond,
+        }
     }
-}
 
-// Is d in conflict? A window that starts no earlier has nothing to show there.
-#[tactic(auto, using(crate::proofs::OpenWindow::late_start), unfolding(path::specs::inner::Tests::in_conflict))]
-fn conflict_at_delay(question: SizedQuestion, start: Instant) -> bool
-    requires starts { start ≡ window_start question.sensed }
-    requires opened { Opened question.sensed }
-    requires tried { StartTried Lower question.sensed }
-    ensures { result ≡ in_conflict Lower question.sensed (d question.sensed) 1 }
-{
-    let d = question.sensed.delay;
-    let end = Instant { n: d, m: 1 };
-    let lower = SideQuestion {
-        side: Side::Lower,
-        question,
-    };
-    start.n < d * start.m && in_window(question, end) && not_beyond(lower, end)
-}
-
-fn from_delay(question: SizedQuestion, start: Instant) -> Option<Instant>
-    requires starts { start ≡ window_start question.sensed }
-    requires opened { Opened question.sensed }
-    requires tried { StartTried Lower question.sensed }
-    ensures { result ≡ shown_from Lower question.sensed (path_instants Lower question.sensed ++ option_to_list (window_end question.sensed)) }
-{
-    if conflict_at_delay(question, start) {
-        return Some(Instant {
-            n: question.sensed.delay,
-            m: 1,
-        });
+    // After d has been tried. Where the path has no conflict at its lowest, no later time has one.
+    #[inline(always)]
+    fn from_lowest(self) -> Option<Instant>
+        requires { InstantsTried Lower self.question.sensed }
+        ensures { result ≡ shown_from Lower self.question.sensed (option_to_list (turning_of self.question.sensed) ++ option_to_list (window_end self.question.sensed)) }
+    {
+        let lower = SideQuestion {
+            side: Side::Lower,
+            question: self.question,
+        };
+        match self.lowest_point() {
+            LowestPoint::Passed => None,
+            LowestPoint::Inside(t) => shown_at(lower, t),
+            LowestPoint::Beyond => from_end(lower),
+        }
     }
-    from_lowest(question, start)
+
+    // Is d in conflict? A window that starts no earlier has nothing to show there.
+    #[tactic(auto, using(crate::proofs::OpenWindow::late_start), unfolding(path::specs::inner::Tests::in_conflict))]
+    #[inline(always)]
+    fn conflict_at_delay(self) -> bool
+        requires { StartTried Lower self.question.sensed }
+        ensures { result ≡ in_conflict Lower self.question.sensed (d self.question.sensed) 1 }
+    {
+        let question = self.question;
+        let start = self.start;
+        let d = question.sensed.delay;
+        let end = Instant { n: d, m: 1 };
+        let lower = SideQuestion {
+            side: Side::Lower,
+            question,
+        };
+        start.n < d * start.m && in_window(question, end) && not_beyond(lower, end)
+    }
+
+    #[inline(always)]
+    fn from_delay(self) -> Option<Instant>
+        requires { StartTried Lower self.question.sensed }
+        ensures { result ≡ shown_from Lower self.question.sensed (path_instants Lower self.question.sensed ++ option_to_list (window_end self.question.sensed)) }
+    {
+        if self.conflict_at_delay() {
+            return Some(Instant {
+                n: self.question.sensed.delay,
+                m: 1,
+            });
+        }
+        self.from_lowest()
+    }
 }
 
 // The time shown on a side of a window that opens at a start. Between the start and the end only the lower path has instants; an upper path that does not
-// approach falls throughout.
+// approach falls throughout. (The start is an argument beside the question, as `window::opening` gives it: a caller needs no type of this crate.)
 #[inline(always)]
 pub fn time_shown(asked: SideQuestion, start: Instant) -> Option<Instant>
     requires { opening asked.question.sensed ≡ Some start }
@@ -208,7 +222,11 @@ pub fn time_shown(asked: SideQuestion, start: Instant) -> Option<Instant>
         return Some(start);
     }
     match asked.side {
-        Side::Lower => from_delay(asked.question, start),
+        Side::Lower => OpenQuestion {
+            question: asked.question,
+            start,
+        }
+        .from_delay(),
         Side::Upper if approaching(asked) => from_end(asked),
         Side::Upper => None,
     }

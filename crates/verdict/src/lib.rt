@@ -15,12 +15,12 @@ use sensed::sensed_question;
 use shown::time_shown;
 use window::opening;
 
-// The sides without a conflict time.
+// The sides without a conflict time, with their number, which answers carry.
 #[derive(Clone, Copy)]
 pub enum ClearSides {
-    Lower,
-    Upper,
-    Both,
+    Lower = 1,
+    Upper = 2,
+    Both = 3,
 }
 
 // Clear, or a conflict that carries its time; a two-sided conflict carries two, the lower one first.
@@ -51,7 +51,8 @@ fn two_sided_verdict(lower: Option<Instant>, upper: Option<Instant>) -> Verdict
     }
 }
 
-// The verdict where the window is empty.
+// The verdict where the window is empty. (One function of the two times, for an empty window and an open one, takes some 50 instructions more a verdict, which may
+// take 380: docs/PERFORMANCE.md.)
 fn empty_verdict(question: Question) -> Verdict
     ensures { result ≡ verdict_of question None None }
 {

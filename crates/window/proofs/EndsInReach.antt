@@ -1,7 +1,7 @@
 -- The window's ends are small: the comparisons at them fit 64 bits. Assumes nothing.
 use Rattle.std.specs.Prelude.{None, Option, Some}
 use Rattle.std.specs.Option.{option_to_list}
-use mathlib.Core.Path.{◌≡◌, refl, sym, subst}
+use mathlib.Core.Path.{◌≡◌, sym, subst}
 use mathlib.Core.List.{[], ◌∷◌}
 use Prim.Native.Nat.{ℕ, zero, suc, ◌≤◌}
 use native.Mathlib.Omega.{arith}
@@ -18,11 +18,11 @@ use Rattle.instant.specs.inner.Sizes.{SizedInstant}
 use Rattle.instant.proofs.TimeOrder.{earlier_elim}
 use Rattle.path.specs.declared.SensedQuestion.{SensedQuestion}
 use Rattle.path.specs.declared.Side.TheVariants.{Lower}
-use Rattle.path.specs.Window.{start_of, exit_of, end_of, window_start, window_end}
+use Rattle.path.specs.Window.{start_of, end_of, window_start, window_end}
 use Rattle.path.specs.Instants.{Among}
 use Rattle.path.specs.inner.Sizes.{LimitSize, Sizes, farthest, InReach}
 use Rattle.path.proofs.Membership.{among_one}
-use Rattle.window.proofs.CodeEnds.{moving_start}
+use Rattle.window.proofs.CodeStart.{moving_start}
 
 abbrev pub Near : Instant → Type 0
 Near t = InReach Lower t.n t.m
@@ -58,13 +58,6 @@ end_near (suc c) p r (Some L) hc hp hr hl t i = among_one Near (earlier (max0 (r
 
 -- ---- and from a question
 module _ (s : SensedQuestion) (z : Sizes s) where
-  pub moving_exit_near : ¬ (s.closing_speed ≡ 0) → Near (exit_of s.closing_speed s.distance s.radius)
-  moving_exit_near h = go s.closing_speed z.c_hi h
-    where
-      go : (c : ℕ) → c ≤ max_closing_speed → ¬ (c ≡ 0) → Near (exit_of c s.distance s.radius)
-      go zero l k = absurd (k refl)
-      go (suc c) l k = exit_near c s.radius s.distance l z.p_hi z.r_hi
-
   pub window_start_near : Near (window_start s)
   window_start_near = start_near s.closing_speed s.radius s.distance z.c_hi z.r_hi
 

@@ -12,7 +12,7 @@ use Rattle.integers.proofs.Difference.{neg_part}
 use Rattle.integers.proofs.Machine.{Reading, bounded, bounded_natural, bounded_word, plain_terms}
 use Rattle.path.specs.declared.SensedQuestion.{SensedQuestion}
 use Rattle.path.specs.declared.Side.{Side}
-use Rattle.path.specs.declared.Side.TheVariants.{Lower}
+use Rattle.path.specs.declared.Side.TheVariants.{Upper}
 use Rattle.path.specs.Letters.{r, c, p}
 use Rattle.path.specs.Window.{distance_at}
 use Rattle.path.specs.inner.Sizes.{Sizes, farthest, InReach}
@@ -49,11 +49,11 @@ size t x g = subst (λ (z : ℤ). nat_abs z ≤ x.bound) (sym (x.is g)) (number_
 
 -- r − c × t, times m, at most
 abbrev pub most_distance : ℕ
-most_distance = max_distance * max_closing_speed + max_closing_speed * farthest Lower
+most_distance = max_distance * max_closing_speed + max_closing_speed * farthest Upper
 
-pub distance_size : (s : SensedQuestion) (n m : ℕ) → Sizes s → InReach Lower n m → nat_abs (distance_at s n m) ≤ most_distance
+pub distance_size : (s : SensedQuestion) (n m : ℕ) → Sizes s → InReach Upper n m → nat_abs (distance_at s n m) ≤ most_distance
 distance_size s n m z h =
     let closing-speed = bounded_natural (c s) max_closing_speed z.c_hi in
-    let time = bounded_natural n (farthest Lower) h.n_hi in
+    let time = bounded_natural n (farthest Upper) h.n_hi in
     let divisor = bounded_natural m max_closing_speed h.m_hi in
     size (distance_at s n m) (search numbers depth 20) tt

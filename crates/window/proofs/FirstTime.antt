@@ -22,7 +22,7 @@ use Rattle.path.specs.Window.{InTime, start_of, window_start}
 use Rattle.path.specs.inner.Tests.{in_time, in_window, opening}
 use Rattle.path.proofs.Decisions.{intime_decided, window_decided}
 use Rattle.path.proofs.WindowEnds.{window_from, window_till, window_by, window_start_divisor}
-use Rattle.window.proofs.CodeEnds.{moving_start}
+use Rattle.window.proofs.CodeStart.{moving_start}
 
 -- 0 is within every limit
 zero_intime : (l : Option ℕ) → InTime l 0 1

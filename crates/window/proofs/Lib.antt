@@ -1,4 +1,4 @@
 pub mod Fields
-pub mod CodeEnds
+pub mod CodeStart
 pub mod EndsInReach
 pub mod FirstTime

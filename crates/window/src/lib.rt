@@ -4,7 +4,7 @@
 
 ghost use Rattle.std.specs.Prelude.{◌≡◌, nat_abs};
 ghost use Rattle.integers.specs.Extremes.{max0};
-ghost use Rattle.path.specs.declared.Side.TheVariants.{Lower};
+ghost use Rattle.path.specs.declared.Side.TheVariants.{Upper};
 ghost use Rattle.path.specs.Letters.{r, c, p};
 ghost use Rattle.path.specs.Window.{distance_at, exit_of, window_end};
 ghost use Rattle.path.specs.inner.Tests.{in_time, in_window, opening};
@@ -30,7 +30,7 @@ pub fn absolute(x: i64) -> u64
 // Is the instant no later than the limit?
 fn in_time(limit: Option<u64>, t: Instant) -> bool
     requires limit_size { LimitSize limit }
-    requires in_reach { InReach Lower t.n t.m }
+    requires in_reach { InReach Upper t.n t.m }
     ensures { result ≡ in_time limit t.n t.m }
 {
     match limit {
@@ -41,7 +41,7 @@ fn in_time(limit: Option<u64>, t: Instant) -> bool
 
 // r − c·t, times the instant's divisor.
 pub fn distance_at(question: SizedQuestion, t: Instant) -> i64
-    requires { InReach Lower t.n t.m }
+    requires { InReach Upper t.n t.m }
     ensures { result ≡ distance_at question.sensed t.n t.m }
 {
     let r = question.sensed.distance;
@@ -54,7 +54,7 @@ pub fn distance_at(question: SizedQuestion, t: Instant) -> i64
 // Is the instant in the window? Its edges count, and so does the limit itself.
 #[tactic(auto, unfolding(path::specs::inner::Tests::in_window))]
 pub fn in_window(question: SizedQuestion, t: Instant) -> bool
-    requires { InReach Lower t.n t.m }
+    requires { InReach Upper t.n t.m }
     ensures { result ≡ in_window question.sensed t.n t.m }
 {
     let s = question.sensed;

@@ -2,23 +2,17 @@
 // What is said of a record is the reply that `answering::State::answer` gives it: nothing is judged here.
 #![tactic(auto)]
 
-ghost use Rattle.std.specs.Prelude.{◌≡◌, Ok};
-ghost use Rattle.record.specs.SheetCheck.{sheet_check};
-
 use answering::State;
 use question::{Encounter, Refusal};
-use reading::{NAME_ROOM, argument, argument_count, open_named, read_full, say_unread};
-use record::{Record, check_sheet, next_at, record_at};
-use std::rt::{Env, Files};
+use reading::{each_argument, open_named, read_part, say_unread};
+use record::{CheckedSheet, MAX_SHEET, Record, next_at, record_at};
+use std::rt::Files;
 use std::{fmt, io};
 use verdict::Verdict;
 
 mod phrases;
 
 use phrases::Words;
-
-// One byte more than the longest sheet, so that a longer one is seen.
-const SHEET_ROOM: usize = 8193;
 
 // An accepted encounter, and the number of its record.
 #[derive(Clone, Copy)]
@@ -123,11 +117,10 @@ fn print_answer(
     Ok(())
 }
 
-// All records of an accepted sheet, in order. By positions, which the words tell: the iterator over records knows none.
+// All records of a sheet, in order. By positions, which the words tell: the iterator over records knows none.
 #[tactic(auto, using(record::proofs::Scan::whole_record))]
-fn print_answers(out: &impl Print, sheet: &[u8]) -> io::Result<()>
-    requires { sheet_check sheet.now ≡ Ok tt }
-{
+fn print_answers(out: &impl Print, checked: CheckedSheet) -> io::Result<()> {
+    let sheet = checked.bytes;
     let (mut at, mut records, mut answers) = (0, 0, 0);
     let mut state = State::new();
     let mut notes = Notes::default();
@@ -150,7 +143,8 @@ fn print_answers(out: &impl Print, sheet: &[u8]) -> io::Result<()>
     println!(out; "records {records}, answers {answers}")
 }
 
-// The first record that is cut short or of unknown kind.
+// The first record that is cut short or of unknown kind. By positions too: the test of a whole sheet says what is wrong and not where, as nothing but this asks
+// for the place, and `Records` walks sheets without a fault.
 fn first_fault(sheet: &[u8]) -> Option<Place> {
     let (mut at, mut record) = (0, 0);
     while at < sheet.len() {
@@ -176,21 +170,22 @@ fn print_refused(out: &impl Print, sheet: &[u8], why: Refusal) -> io::Result<()>
 }
 
 fn print_sheet(out: &impl Print, sheet: &[u8]) -> io::Result<()> {
-    match check_sheet(sheet) {
-        Ok(()) => print_answers(out, sheet),
+    match CheckedSheet::check(sheet) {
+        Ok(checked) => print_answers(out, checked),
         Err(why) => print_refused(out, sheet, why),
     }
 }
 
 fn answer_file<P: Print, R: io::Read>(out: &P, file: &mut R) -> io::Result<()> {
-    let mut sheet = [0u8; SHEET_ROOM];
-    let length = read_full(file, &mut sheet)?;
-    print_sheet(out, &sheet[..length])
+    // One byte more than the longest sheet, so that a longer one is seen. (`program::answer_read` reads so too, but gives the answer's bytes, and words are of the sheet's.)
+    let mut room = [0u8; MAX_SHEET + 1];
+    print_sheet(out, read_part(file, &mut room)?)
 }
 
 fn answer_named<R: Print + Eprint + Files>(rt: &R, name: &[u8]) -> io::Result<()> {
     match open_named(rt, name) {
         Ok(mut file) => {
+            // By `write_all`, as a file's name is bytes, perhaps no text.
             rt.write_all(name)?;
             rt.print("\n")?;
             answer_file(rt, &mut file)
@@ -199,18 +194,13 @@ fn answer_named<R: Print + Eprint + Files>(rt: &R, name: &[u8]) -> io::Result<()
     }
 }
 
-fn answer_argument<R: Print + Eprint + Input + Files + Env>(rt: &R, k: usize) -> io::Result<()> {
-    let mut room = [0u8; NAME_ROOM];
-    let length = argument(rt, k, &mut room);
-    match &room[..length] {
+fn answer_argument<R: Print + Eprint + Input + Files>(rt: &R, name: &[u8]) -> io::Result<()> {
+    match name {
         b"-" => answer_file(rt, &mut rt.reader()),
-        name => answer_named(rt, name),
+        _ => answer_named(rt, name),
     }
 }
 
 fn main(rt: HostRuntime) -> io::Result<()> {
-    for k in 1..argument_count(&rt) {
-        answer_argument(&rt, k)?;
-    }
-    Ok(())
+    each_argument(&rt, &mut |name| answer_argument(&rt, name))
 }

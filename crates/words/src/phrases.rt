@@ -153,7 +153,8 @@ impl fmt::Display for Code {
     }
 }
 
-// A question's limit, which may be none.
+// A question's limit, which may be none. Limit, sides and sense each have a match of their own, where all that is said of the number stands together: a number
+// that has no name gets a word before it, and the limit a unit after it, which one type for all three would take from each caller.
 #[derive(Clone, Copy)]
 struct Limit(i64);
 

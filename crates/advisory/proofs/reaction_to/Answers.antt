@@ -1,15 +1,16 @@
--- The loop of `advisory::reaction_to` goes on where the row has another code.
-use mathlib.Core.Path.{◌∙◌}
-use native.Mathlib.Numerals.{add-one}
-use borrow.Author.Tests.{ne_eqb}
-use lib.ListN.{get_or}
-use Rattle.advisory.specs.ReactionTable.{row, reaction_table}
-use Rattle.advisory.proofs.Rows.{search_from}
+-- `advisory::reaction_to` meets its contract: the first row that passes the closure's test is the first with the code.
+use Rattle.std.proofs.Common.{◌∙◌, rules}
+use Rattle.std.proofs.lemmas.Iterator.{YieldsList-from_slice}
+use Rattle.std.proofs.lemmas.Iterator.Search.{find_from_yields_List}
+use borrow.Author.Tests.{tests}
+use lib.Dec.{eqb}
+use Rattle.advisory.specs.ReactionTable.{reaction_table}
+use Rattle.advisory.specs.declared.Reaction.{Reaction}
 use Rattle.advisory.proofs.reaction_to.Goals as goal
 
-pub loop-row-preserved : goal.loop-row-preserved
+pub returns : goal.returns
 unfolding reaction_table
-loop-row-preserved c =
-    let loop = c.loop-row in
-    let other = ne_eqb (get_or reaction_table loop.row-index (row 0 0 0)).code c.args.code c.if-row-code.false in
-    loop.invariant ∙ search_from reaction_table loop.row-index c.args.code (row 0 0 0) c.loop-row-test.true ∙ rw (other, add-one)
+returns c =
+    c.copied.ensures ∙ find_from_yields_List (λ (r : Reaction). eqb r.code c.args.code) c.find.new.self _ c.find.result c.find.ensures.ran
+    (YieldsList-from_slice reaction_table cc)
+    (λ x b q k. search (rules, tests))

@@ -1,8 +1,7 @@
--- `conflict::delay_not_beyond` meets its contract: each product fits, and each arm's comparison is its side's.
-use mathlib.Core.Path.{◌∙◌}
+-- `conflict::delay_not_beyond` meets its contract: each product fits, and the comparison is the definition's.
 use borrow.Author.Rules.{sfits_of}
-use Rattle.integers.proofs.Machine.{fits, plain}
-use Rattle.conflict.proofs.Fields.{read_call, numbers, lower_comparison, upper_comparison, read_edge_height}
+use Rattle.integers.proofs.Machine.{fits, plain_call}
+use Rattle.conflict.proofs.Fields.{read_call, numbers, read_edge_height}
 use Rattle.conflict.proofs.delay_not_beyond.Goals as goal
 
 pub overflow_mul-edge-2 : goal.overflow_mul-edge-2
@@ -15,18 +14,10 @@ overflow_mul-edge-3 c =
     let edge = read_edge_height c.args.asked c.edge_height-edge.ensures in
     fits (search numbers depth 20) tt
 
-pub returns-in-Lower : goal.returns-in-Lower
-returns-in-Lower c =
+pub returns : goal.returns
+returns c =
     let z = c.args.asked.question.sizes in
     let h = c.requires in
     let height = read_call (sfits_of c.delay_height-height.type_inv) c.delay_height-height.ensures in
     let edge = read_edge_height c.args.asked c.edge_height-edge.ensures in
-    plain (search numbers depth 20) tt ∙ lower_comparison _ _ c.in-Lower.is
-
-pub returns-in-Upper : goal.returns-in-Upper
-returns-in-Upper c =
-    let z = c.args.asked.question.sizes in
-    let h = c.requires in
-    let height = read_call (sfits_of c.delay_height-height.type_inv) c.delay_height-height.ensures in
-    let edge = read_edge_height c.args.asked c.edge_height-edge.ensures in
-    plain (search numbers depth 20) tt ∙ upper_comparison _ _ c.in-Upper.is
+    plain_call c.height_not_beyond.ensures (search numbers depth 20) tt

@@ -47,25 +47,25 @@ abbrev pub rule_edge : Side → SensedQuestion → ℤ
 rule_edge side s = pos 2 *ℤ edge_height side s -ℤ delay_height (bend side s) (u s) (d s) 1
 
 abbrev pub rule_of : Side → SensedQuestion → AdviceRule
-rule_of side s = record { strength = strength_of side s; target = target_of side s; speed = speed_after_delay side s; edge = rule_edge side s }
+rule_of side s = record { side = side; strength = strength_of side s; target = target_of side s; speed = speed_after_delay side s; edge = rule_edge side s }
 
 -- The rule against its edge n/m after it begins, undivided: times 2 × a × m²
-abbrev pub rule_not_beyond : Side → AdviceRule → ℕ → ℕ → Bool
-rule_not_beyond side rule n m =
-    height_not_beyond side (advice_gain rule.strength rule.target rule.speed n m) (pos rule.strength *ℤ pos m *ℤ pos m *ℤ rule.edge)
+abbrev pub rule_not_beyond : AdviceRule → ℕ → ℕ → Bool
+rule_not_beyond rule n m =
+    height_not_beyond rule.side (advice_gain rule.strength rule.target rule.speed n m) (pos rule.strength *ℤ pos m *ℤ pos m *ℤ rule.edge)
 
 -- "G = max(0, q − u_d)", the speed that is missing where the rule begins
 abbrev pub missing : AdviceRule → ℕ
 missing rule = max0 (rule.target -ℤ rule.speed)
 
 -- while s < G/a: u_d × s + a × s²/2 at s = n/m, times 2 × m²
-abbrev pub arc_not_beyond : Side → AdviceRule → ℕ → ℕ → Bool
-arc_not_beyond side rule n m =
-    height_not_beyond side (pos 2 *ℤ rule.speed *ℤ pos n *ℤ pos m +ℤ pos rule.strength *ℤ pos n *ℤ pos n) (pos m *ℤ pos m *ℤ rule.edge)
+abbrev pub arc_not_beyond : AdviceRule → ℕ → ℕ → Bool
+arc_not_beyond rule n m =
+    height_not_beyond rule.side (pos 2 *ℤ rule.speed *ℤ pos n *ℤ pos m +ℤ pos rule.strength *ℤ pos n *ℤ pos n) (pos m *ℤ pos m *ℤ rule.edge)
 
 -- from then on: q × s − G²/(2 × a), times 2 × a × m
-abbrev pub straight_not_beyond : Side → AdviceRule → ℕ → ℕ → Bool
-straight_not_beyond side rule n m =
-    height_not_beyond side
+abbrev pub straight_not_beyond : AdviceRule → ℕ → ℕ → Bool
+straight_not_beyond rule n m =
+    height_not_beyond rule.side
     (pos 2 *ℤ rule.target *ℤ pos (rule.strength * n) -ℤ pos (missing rule) *ℤ pos (missing rule) *ℤ pos m)
     (pos rule.strength *ℤ pos m *ℤ rule.edge)

@@ -1,4 +1,4 @@
--- Each case is counted once.
+-- Each case is counted once. (`vectors` has the same: an invariant is of one function's loop.)
 use Rattle.std.proofs.Common.{◌≡◌}
 use Rattle.drawings.proofs.report_on.Given as goal
 

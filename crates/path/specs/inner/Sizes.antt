@@ -1,7 +1,7 @@
 -- Definitions that only inner contracts use; an instructor need not read them.
 -- The sizes that a sensed question has where document 01's limits hold (`limits`): the inner functions ask for them, and whoever calls these shows them
 -- from the refusals.
-use Rattle.std.specs.Prelude.{ℕ, ◌+◌, ◌*◌, ◌≤◌, pos, neg_ℤ, ◌-ℤ◌, ◌≤ℤ◌, None, Option, Some}
+use Rattle.std.specs.Prelude.{◌≡◌, ◌⊎◌, ℕ, ◌+◌, ◌*◌, ◌≤◌, pos, neg_ℤ, ◌-ℤ◌, ◌≤ℤ◌, None, Option, Some}
 use Rattle.std.specs.Coded.{Unit-prop, le_prop}
 use Rattle.limits.specs.Limits.{max_distance, max_height, max_closing_speed, max_speed, max_radius, max_half_height, min_strength, max_strength, max_delay_acceleration, max_delay, max_limit}
 use Rattle.path.specs.declared.SensedQuestion.{SensedQuestion}
@@ -57,7 +57,7 @@ abbrev pub Sized : Side → SensedQuestion → Type 0
 Sized Lower s = Sizes s
 Sized Upper s = Sizes s × UpperSizes s
 
--- The seconds that a search needs at most after d: chosen, and enough for the limits (`Reaches-end`)
+-- The seconds that a search needs at most after d: chosen, and enough for the limits (`reaches_end`)
 abbrev pub search_seconds : Side → ℕ
 search_seconds Lower = 1680000
 search_seconds Upper = 201680000
@@ -71,6 +71,10 @@ pub record InReach (side : Side) (n m : ℕ) : Type 0 where
   pub n_hi : n ≤ farthest side
   pub m_lo : 1 ≤ m
   pub m_hi : m ≤ max_closing_speed
+
+-- Where a side's path is compared: in its reach, and at each whole second in the upper one's
+abbrev pub Compared : Side → ℕ → ℕ → Type 0
+Compared side n m = InReach side n m ⊎ (InReach Upper n m × (m ≡ 1))
 
 -- The whole seconds between which a search looks, where the window has no end and the path goes towards the intruder for ever: at the later one it has
 -- reached the intruder, whatever the accepted question

@@ -24,7 +24,7 @@ immediate_allowed z = delayed_allowed z && is_number (pos 0) z.delay
 -- a question is asked, by code or freely, and passes the test
 abbrev pub asks : (Question → Bool) → Result Question Refusal → Bool
 asks test (Ok z) = test z
-asks test (Err n) = false
+asks test (Err why) = false
 
 abbrev pub examples_with : (Question → Bool) → List Example
 examples_with test = filter {p = λ (m : Example). asks test m.question ≡ true} (λ m. Bool-discrete (asks test m.question) true) examples

@@ -11,6 +11,6 @@ abbrev pub invariant-loop-reply : goal.invariant-loop-reply
 invariant-loop-reply l = record {
   can_next : (goal.iterator-loop-reply).can_next l.reply-iterator;
   is_finite : (goal.iterator-loop-reply).is_finite l.reply-iterator;
-  counted : l.total + length (flat_map reply_bytes (replies_left l.reply-iterator)) ≡ length (sheet_answer l.sheet);
-  stored : sets l.initial.area 0 (sheet_answer l.sheet) ≡ sets l.area l.total (flat_map reply_bytes (replies_left l.reply-iterator));
+  counted : l.total + length (flat_map reply_bytes (replies_left l.reply-iterator)) ≡ length (sheet_answer l.sheet.bytes.now);
+  stored : sets l.initial.area 0 (sheet_answer l.sheet.bytes.now) ≡ sets l.area l.total (flat_map reply_bytes (replies_left l.reply-iterator));
 }

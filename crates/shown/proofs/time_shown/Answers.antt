@@ -4,6 +4,7 @@ use Rattle.std.specs.Option.{option_to_list}
 use mathlib.Core.Path.{◌≡◌, sym, ap, ◌∙◌, subst}
 use mathlib.Core.Bool.{false}
 use mathlib.Core.List.{◌++◌}
+use mathlib.Core.Logic.{inl}
 use Rattle.instant.specs.declared.Instant.{Instant}
 use Rattle.path.specs.declared.SensedQuestion.{SensedQuestion}
 use Rattle.path.specs.declared.Side.{Side}
@@ -11,7 +12,7 @@ use Rattle.path.specs.declared.Side.TheVariants.{Lower, Upper}
 use Rattle.path.specs.Window.{window_end}
 use Rattle.path.specs.Instants.{path_instants}
 use Rattle.path.specs.inner.Tests.{opening, not_beyond}
-use Rattle.conflict.proofs.Fields.{side_reach}
+use Rattle.path.proofs.Reach.{side_reach}
 use Rattle.window.proofs.EndsInReach.{Near, window_start_near}
 use Rattle.shown.specs.TimeShown.{approaches, shown_from, time_shown}
 use Rattle.shown.specs.inner.Steps.{StartTried, InstantsTried}
@@ -29,19 +30,16 @@ missed side x s start is e n = subst (λ (x : Side). Missed x s (time_shown side
 pub not_beyond-requires : goal.not_beyond-requires
 not_beyond-requires c =
     let s = c.args.asked.question.sensed in
-    side_reach c.args.asked.side (subst Near (sym (opened_at s c.args.start c.requires).0) (window_start_near s c.args.asked.question.sizes))
+    inl (side_reach c.args.asked.side (subst Near (sym (opened_at s c.args.start c.requires).0) (window_start_near s c.args.asked.question.sizes)))
 
 pub returns-then-not_beyond : goal.returns-then-not_beyond
 returns-then-not_beyond c = first_hit c.args.asked.question.sensed c.args.start c.requires c.args.asked.side (sym c.not_beyond.ensures ∙ c.if-not_beyond.true)
 
-pub from_delay-requires-clause-starts : goal.from_delay-requires-clause-starts
-from_delay-requires-clause-starts c = (opened_at c.args.asked.question.sensed c.args.start c.requires).0
+pub invariant_of-from_delay : goal.invariant_of-from_delay
+invariant_of-from_delay c = let opens = opened_at c.args.asked.question.sensed c.args.start c.requires in record { starts = opens.0; opened = opens.1 }
 
-pub from_delay-requires-clause-opened : goal.from_delay-requires-clause-opened
-from_delay-requires-clause-opened c = (opened_at c.args.asked.question.sensed c.args.start c.requires).1
-
-pub from_delay-requires-clause-tried : goal.from_delay-requires-clause-tried
-from_delay-requires-clause-tried c =
+pub from_delay-requires : goal.from_delay-requires
+from_delay-requires c =
     (missed c.args.asked.side Lower c.args.asked.question.sensed c.args.start c.in-Lower.is c.requires (sym c.not_beyond.ensures ∙ c.if-not_beyond.false)).start
 
 pub returns-in-Lower : goal.returns-in-Lower

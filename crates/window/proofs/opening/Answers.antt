@@ -6,9 +6,10 @@ use lib.Dec.{eqb}
 use Rattle.std.specs.Bool.{then_some}
 use Rattle.integers.proofs.Machine.{passed, failed, plain_call}
 use Rattle.instant.specs.Order.{◌÷◌}
-use Rattle.path.specs.declared.Side.TheVariants.{Lower}
+use Rattle.path.specs.declared.Side.TheVariants.{Upper}
 use Rattle.path.specs.inner.Tests.{in_time}
 use Rattle.path.specs.inner.Sizes.{InReach}
+use Rattle.path.proofs.Reach.{lower_in_upper}
 use Rattle.window.proofs.Fields.{numbers}
 use Rattle.window.proofs.EndsInReach.{moving_start_near}
 use Rattle.window.proofs.FirstTime.{passed_opening, still_opening, moving_opening}
@@ -28,7 +29,7 @@ pub in_time-requires-clause-in_reach : goal.in_time-requires-clause-in_reach
 in_time-requires-clause-in_reach c =
     let s = c.args.question.sensed in
     let z = c.args.question.sizes in
-    subst (λ (n : ℕ). InReach Lower n s.closing_speed) (sym (plain_call c.positive_part-ahead.ensures (search numbers depth 20) tt)) (moving_start_near s z c.if-c-eq0.false)
+    subst (λ (n : ℕ). InReach Upper n s.closing_speed) (sym (plain_call c.positive_part-ahead.ensures (search numbers depth 20) tt)) (lower_in_upper (moving_start_near s z c.if-c-eq0.false))
 
 pub returns : goal.returns
 returns c =
