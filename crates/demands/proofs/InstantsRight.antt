@@ -3,7 +3,7 @@ use Rattle.std.specs.Prelude.{Err, None, Ok, Option, Result, Some, ⊤}
 use Rattle.std.proofs.Flags.{T_true}
 use Rattle.std.proofs.lemmas.Bool.{cond-true}
 use Rattle.std.specs.Bool.{passes}
-use mathlib.Core.Path.{◌≡◌, refl, sym, ap, ◌∙◌, subst}
+use mathlib.Core.Path.{◌≡◌, refl, sym, ap, ap₂, ◌∙◌, subst}
 use mathlib.Core.Bool.{Bool, true, false, cond}
 use mathlib.Core.Logic.{◌↔◌, inl, inr}
 use Prim.Native.Nat.{ℕ, ◌*◌, ◌<◌, ◌≤◌}
@@ -27,6 +27,7 @@ use Rattle.question.specs.declared.Encounter.{Encounter}
 use Rattle.question.specs.declared.Settings.{Settings}
 use Rattle.question.specs.declared.Question.{Question}
 use Rattle.question.specs.declared.refusal.Refusal.{Refusal}
+use Rattle.question.specs.RefusalNumbers.{refusal_number, with_number}
 use Rattle.question.specs.Refusals.{two_sided, refusal}
 use Rattle.sensed.specs.Sensed.{sensed_question}
 use Rattle.sensed.proofs.AcceptedSizes.{accepted_sizes, accepted_upper_sizes}
@@ -42,10 +43,14 @@ use Rattle.named_instant.specs.declared.InstantAnswer.TheVariants.{Judged, OutOf
 use Rattle.named_instant.specs.Reach.{value, in_reach}
 use Rattle.named_instant.proofs.SameValue.{same_conflict}
 use Rattle.named_instant.proofs.InReach.{Reached as Reach, reach_decided, compared_reached}
-use Rattle.named_instant.proofs.JudgedByValue.{reached_divisor, answered}
+use Rattle.named_instant.proofs.JudgedByValue.{reached_divisor, answered, same_standing}
 use Rattle.named_instant.specs.InstantAnswers.{standing, reached_answer, checked_instant, instant_answer}
+use Rattle.candidate.specs.FlightAnswers.{yes_number}
+use Rattle.binding.specs.declared.InstantResult.{InstantResult}
+use Rattle.binding.specs.Instants.{side_number, flat_instant}
 use Rattle.demands.specs.Demand3.{ConflictAt, SomeConflict, Shown, Said}
-use Rattle.demands.specs.Instants.{WindowAt, WithinReach, Reached, UpperSaid, RightStanding, RightlyNamed, ShownOn, ClearOn, FoundOn, NamedOn, AgreesAt}
+use Rattle.demands.specs.Instants.{WindowAt, WithinReach, Reached, UpperSaid, RightStanding, RightlyNamed, ShownOn, ClearOn, FoundOn, NamedOn, AgreesAt, DecimalsReached, standing_in, instant_in}
+use Rattle.demands.proofs.RefusalNumbers.{number_held}
 use Rattle.demands.proofs.PlainAnswers.{limited, spelled, unspelled, judged_as}
 
 -- ---- what holds at an instant, spelled out
@@ -100,6 +105,31 @@ pub reach_found : (t : Instant) → Reached t.n t.m → in_reach (value t) ≡ t
 reach_found t r =
     subst (λ (u : Time). in_reach (shows u) ≡ true) (lowest_unique t.n t.m r.rational r.time r.lowest) ((reach_decided (shows r.time)).1 (reach_of r.time r.lowest.below r.within))
 
+-- ---- the struct of numbers holds the answer
+upper_held : (upper : Option Bool) → cond (eqb (side_number upper) 0) None (Some (eqb (side_number upper) 2)) ≡ upper
+upper_held None = refl
+upper_held (Some false) = refl
+upper_held (Some true) = refl
+
+standing_held : (found : Standing) → standing_in (flat_instant (Ok (Judged found))) ≡ found
+standing_held found = λ i. record { in_window = yes_held found.in_window i; lower = lower_held found.lower i; upper = upper_held found.upper i }
+  where
+    yes_held : (b : Bool) → eqb (yes_number b) 1 ≡ b
+    yes_held true = refl
+    yes_held false = refl
+
+    lower_held : (b : Bool) → eqb (side_number (Some b)) 2 ≡ b
+    lower_held true = refl
+    lower_held false = refl
+
+instant_held : (a : Result InstantAnswer Refusal) → instant_in (flat_instant a) ≡ with_number a
+instant_held (Err why) = number_held why _
+instant_held (Ok OutOfReach) = refl
+instant_held (Ok (Judged found)) = ap (λ (f : Standing). Ok (Judged f)) (standing_held found)
+
+numbered : Result InstantAnswer Refusal → Result InstantAnswer ℕ
+numbered a = with_number a
+
 -- ---- of the entry's result
 module _ (x : Encounter) (y : Settings) (z : Question) (t : Instant) where
   s : SensedQuestion
@@ -109,16 +139,29 @@ module _ (x : Encounter) (y : Settings) (z : Question) (t : Instant) where
   unfolding instant_answer
   refused why e = ap (λ (c : Result ⊤ Refusal). checked_instant c (reached_answer (in_reach (value t)) (standing z s t))) e
 
-  pub rightly_named : RightlyNamed x y z t (instant_answer x y z t)
+  by_reach : (b : Bool) → refusal x y z ≡ Ok tt → in_reach (value t) ≡ b → with_number (instant_answer x y z t) ≡ Ok (reached_answer b (standing z s t))
+  by_reach b e h = ap numbered (answered x y z t e ∙ ap (λ (b : Bool). Ok (reached_answer b (standing z s t))) h)
+
+  pub rightly_named : RightlyNamed x y z t (with_number (instant_answer x y z t))
   rightly_named = record {
-    refused = refused;
-    out_of_reach = λ e h. answered x y z t e ∙ ap (λ (b : Bool). Ok (reached_answer b (standing z s t))) (is_false (in_reach (value t)) (λ r. h (reached t r)));
-    judged = λ e r. (
-      standing z s t,
-      answered x y z t e ∙ ap (λ (b : Bool). Ok (reached_answer b (standing z s t))) (reach_found t r),
-      right_standing z s t r.rational,
-    );
+    refused = λ why e. ap numbered (refused why e);
+    out_of_reach = λ e h. by_reach false e (is_false (in_reach (value t)) (λ r. h (reached t r)));
+    judged = λ e r. (standing z s t, by_reach true e (reach_found t r), right_standing z s t r.rational);
   }
+
+  -- in the struct of numbers
+  pub rightly_exported : (out : InstantResult) → out ≡ flat_instant (instant_answer x y z t) → RightlyNamed x y z t (instant_in out)
+  rightly_exported out e = subst (RightlyNamed x y z t) (sym (ap instant_in e ∙ instant_held (instant_answer x y z t))) rightly_named
+
+-- ---- the answer at a value, and the decimals
+pub one_answer : (x : Encounter) (y : Settings) (z : Question) (t u : Instant) → 1 ≤ t.m → 1 ≤ u.m → t ≈ u → instant_answer x y z t ≡ instant_answer x y z u
+unfolding instant_answer
+one_answer x y z t u p q e = ap₂ (λ (b : Bool) (f : Standing). checked_instant (refusal x y z) (reached_answer b f))
+    (ap (λ (w : Time). in_reach (shows w)) ((lowest_same t.n t.m u.n u.m p q).1 e))
+    (same_standing (sensed_question x y z) t u p q e z)
+
+pub decimals_reached : DecimalsReached
+decimals_reached n h = reached (n ÷ 1000) (compared_reached (n ÷ 1000) (omega arith) (inl (record { n_hi = omega arith; m_lo = omega arith; m_hi = omega arith })))
 
 -- ---- against the judge's answer to the same question
 module _ (s : SensedQuestion) where
@@ -217,3 +260,14 @@ module _ (x : Encounter) (y : Settings) (z : Question) where
           shown_named (accepted_where_judged v e) side time h.0 h.1 p is;
       clear = λ side v e c. none_named (accepted_where_judged v e) side (clear_none s (two_sided z) v (said_where_judged v e) side c);
     }
+
+-- ---- of results that are the answers
+module _ (x : Encounter) (y : Settings) (z : Question) where
+  pub rightly : (t : Instant) (r : Result InstantAnswer Refusal) → r ≡ instant_answer x y z t → RightlyNamed x y z t (with_number r)
+  rightly t r e = subst (λ (a : Result InstantAnswer Refusal). RightlyNamed x y z t (with_number a)) (sym e) (rightly_named x y z t)
+
+  pub agrees : (t : Instant) (r : Result Verdict Refusal) (a : Result InstantAnswer Refusal) → r ≡ answer x y z → a ≡ instant_answer x y z t → AgreesAt t r a
+  agrees t r a e f = subst (λ (r : Result Verdict Refusal). AgreesAt t r a) (sym e) (subst (AgreesAt t (answer x y z)) (sym f) (agrees_at x y z t))
+
+  pub one : (t u : Instant) (a b : Result InstantAnswer Refusal) → a ≡ instant_answer x y z t → b ≡ instant_answer x y z u → 1 ≤ t.m → 1 ≤ u.m → t ≈ u → a ≡ b
+  one t u a b e f p q h = e ∙ one_answer x y z t u p q h ∙ sym f

@@ -1,9 +1,9 @@
 -- "A candidate may name any instant, and the key must already hold the answer for that instant and for every one nobody tried." What it asks of the answer at an
 -- instant n/m. x is an encounter, y the settings, z a question.
-use Rattle.std.specs.Prelude.{◌≡◌, Bool, true, false, ◌↔◌, ℕ, ◌*◌, ◌≤◌, ◌<◌, pos, ◌-ℤ◌, ◌*ℤ◌, nat_abs, Err, None, Ok, Option, Result, Some}
+use Rattle.std.specs.Prelude.{◌≡◌, ◌⊎◌, Bool, true, false, cond, ◌↔◌, ℕ, ◌*◌, ◌≤◌, eqb, pos, ◌-ℤ◌, ◌*ℤ◌, nat_abs, Err, None, Ok, Option, Result, Some}
 use Rattle.instant.specs.declared.Instant.{Instant}
 use Rattle.instant.specs.declared.Time.{Time}
-use Rattle.instant.specs.Order.{◌÷◌, ◌≈◌}
+use Rattle.instant.specs.Order.{◌≈◌}
 use Rattle.instant.specs.LowestTerms.{LowestTerms, shows}
 use Rattle.path.specs.declared.SensedQuestion.{SensedQuestion}
 use Rattle.path.specs.declared.Side.{Side}
@@ -13,6 +13,7 @@ use Rattle.question.specs.declared.Encounter.{Encounter}
 use Rattle.question.specs.declared.Settings.{Settings}
 use Rattle.question.specs.declared.Question.{Question}
 use Rattle.question.specs.declared.refusal.Refusal.{Refusal}
+use Rattle.question.specs.RefusalNumbers.{refusal_number}
 use Rattle.question.specs.Refusals.{two_sided, refusal}
 use Rattle.sensed.specs.Sensed.{sensed_question}
 use Rattle.verdict.specs.declared.ClearSides.{ClearSides}
@@ -21,7 +22,8 @@ use Rattle.verdict.specs.declared.Verdict.TheVariants.{Clear, Conflict, Conflict
 use Rattle.named_instant.specs.declared.Standing.{Standing}
 use Rattle.named_instant.specs.declared.InstantAnswer.{InstantAnswer}
 use Rattle.named_instant.specs.declared.InstantAnswer.TheVariants.{Judged, OutOfReach}
-use Rattle.demands.specs.Demand3.{WithinLimit, ConflictAt, SomeConflict}
+use Rattle.binding.specs.declared.InstantResult.{InstantResult}
+use Rattle.demands.specs.Demand3.{WithinLimit, ConflictAt}
 
 -- "The window is every rational t ≥ 0, up to the limit if one is set, with |r − c × t| ≤ p"
 pub record WindowAt (s : SensedQuestion) (n m : ℕ) : Type 0 where
@@ -48,9 +50,9 @@ pub record RightStanding (two : Bool) (s : SensedQuestion) (n m : ℕ) (found : 
   pub lower : (found.lower ≡ true) ↔ ConflictAt Lower s n m
   pub upper : UpperSaid two s n m found.upper
 
-pub record RightlyNamed (x : Encounter) (y : Settings) (z : Question) (t : Instant) (answer : Result InstantAnswer Refusal) : Type 0 where
+pub record RightlyNamed (x : Encounter) (y : Settings) (z : Question) (t : Instant) (answer : Result InstantAnswer ℕ) : Type 0 where
   -- refused as the entry for plain numbers refuses
-  pub refused : (why : Refusal) → refusal x y z ≡ Err why → answer ≡ Err why
+  pub refused : (why : Refusal) → refusal x y z ≡ Err why → answer ≡ Err (refusal_number why)
   -- m = 0, or numbers out of reach
   pub out_of_reach : refusal x y z ≡ Ok tt → ¬ Reached t.n t.m → answer ≡ Ok OutOfReach
   pub judged : refusal x y z ≡ Ok tt → Reached t.n t.m → (found : Standing) × (answer ≡ Ok (Judged found)) × RightStanding (two_sided z) (sensed_question x y z) t.n t.m found
@@ -90,3 +92,18 @@ pub record AgreesAt (t : Instant) (judged : Result Verdict Refusal) (named : Res
   pub shown : (side : Side) (v : Verdict) (time : Time) → judged ≡ Ok v → ShownOn side v time → 1 ≤ t.m → t ≈ shows time → NamedOn side named true
   -- where the verdict is clear on a side, no instant whatever is judged a conflict there
   pub clear : (side : Side) (v : Verdict) → judged ≡ Ok v → ClearOn side v → ¬ NamedOn side named true
+
+-- The answer depends on the value n/m alone: a and b are the answers at t and at u.
+abbrev pub OneAnswer : Instant → Instant → Result InstantAnswer Refusal → Result InstantAnswer Refusal → Type 0
+OneAnswer t u a b = 1 ≤ t.m → 1 ≤ u.m → t ≈ u → a ≡ b
+
+-- every decimal of three places up to 12,000 s is in reach
+abbrev pub DecimalsReached : Type 0
+DecimalsReached = (n : ℕ) → n ≤ 12000 * 1000 → Reached n 1000
+
+-- the answer in the struct of numbers that C and Rust get: 1 for "is so"; of a side 2 for a conflict time, 0 where it is not asked
+abbrev pub standing_in : InstantResult → Standing
+standing_in f = record { in_window = eqb f.in_window 1; lower = eqb f.lower 2; upper = cond (eqb f.upper 0) None (Some (eqb f.upper 2)) }
+
+abbrev pub instant_in : InstantResult → Result InstantAnswer ℕ
+instant_in f = cond (eqb f.refusal 0) (Ok (cond (eqb f.in_reach 0) OutOfReach (Judged (standing_in f)))) (Err f.refusal)
