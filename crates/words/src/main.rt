@@ -10,6 +10,7 @@ use std::rt::Files;
 use std::{fmt, io};
 use verdict::Verdict;
 
+mod instant_text;
 mod phrases;
 
 use phrases::Words;
