@@ -1,11 +1,10 @@
 // How it is said what holds at an instant that is named.
 
+use crate::phrases::Words;
 use instant::{Instant, lowest_terms};
 use named_instant::{InstantAnswer, Standing};
 use std::fmt;
 use verdict::Verdict;
-
-use crate::phrases::Words;
 
 // An instant, what holds there, and the verdict on the same question.
 #[derive(Clone, Copy)]
@@ -27,7 +26,7 @@ impl fmt::Display for Words<Instant> {
     }
 }
 
-// What an instant is. Where it is a conflict time it is in the window.
+// What an instant is. A conflict time is in the window.
 impl fmt::Display for Words<Standing> {
     fn fmt<W: fmt::Write>(&self, f: &mut fmt::Formatter<W>) -> fmt::Result {
         let Standing {
@@ -35,8 +34,10 @@ impl fmt::Display for Words<Standing> {
             lower,
             upper,
         } = self.0;
+        if !in_window {
+            return write!(f, "outside the window");
+        }
         match (lower, upper) {
-            _ if !in_window => write!(f, "outside the window"),
             (true, None) => write!(f, "a conflict time"),
             (false, None) => write!(f, "in the window and no conflict time"),
             (true, Some(true)) => write!(f, "a conflict time on both sides"),
@@ -48,34 +49,36 @@ impl fmt::Display for Words<Standing> {
                 f,
                 "a conflict time on the upper side and not on the lower"
             ),
-            (false, Some(false)) => write!(
-                f,
-                "in the window and no conflict time on either side"
-            ),
+            (false, Some(false)) => write!(f, "in the window and no conflict time on either side"),
         }
     }
 }
 
-// Which times the judge shows; a clear verdict has none.
+// Of a conflict time it is said besides what the judge shows. Two-sided, the verdict may still be clear, on the other side, and then it shows no time.
 #[derive(Clone, Copy)]
-struct Shown(Verdict);
+struct Shown {
+    standing: Standing,
+    verdict: Verdict,
+}
 
 impl fmt::Display for Shown {
     fn fmt<W: fmt::Write>(&self, f: &mut fmt::Formatter<W>) -> fmt::Result {
-        match self.0 {
-            Verdict::Clear(_) => Ok(()),
-            Verdict::Conflict(time) => write!(f, "; the judge shows {}", Words(time)),
-            Verdict::Conflicts(lower, upper) => write!(
+        let Shown { standing, verdict } = *self;
+        let found = standing.lower || standing.upper == Some(true);
+        match verdict {
+            Verdict::Conflict(time) if found => write!(f, "; the judge shows {}", Words(time)),
+            Verdict::Conflicts(lower, upper) if found => write!(
                 f,
                 "; the judge shows {} on the lower side and {} on the upper",
                 Words(lower),
                 Words(upper)
             ),
+            _ => Ok(()),
         }
     }
 }
 
-// "17 1/2 s is a conflict time; the judge shows 27 s": of a conflict time it is said besides what is shown.
+// "17 1/2 s is a conflict time; the judge shows 27 s", "20 s is outside the window"
 impl fmt::Display for Named {
     fn fmt<W: fmt::Write>(&self, f: &mut fmt::Formatter<W>) -> fmt::Result {
         let Named {
@@ -83,22 +86,15 @@ impl fmt::Display for Named {
             answer,
             verdict,
         } = *self;
+        let instant = Words(instant);
         match answer {
-            InstantAnswer::OutOfReach => write!(
+            InstantAnswer::OutOfReach => write!(f, "{instant} is out of the judge's reach"),
+            InstantAnswer::Judged(standing) => write!(
                 f,
-                "{} is out of the judge's reach",
-                Words(instant)
-            ),
-            InstantAnswer::Judged(standing) if standing.is_conflict() => write!(
-                f,
-                "{} is {}{}",
-                Words(instant),
+                "{instant} is {}{}",
                 Words(standing),
-                Shown(verdict)
+                Shown { standing, verdict }
             ),
-            InstantAnswer::Judged(standing) => {
-                write!(f, "{} is {}", Words(instant), Words(standing))
-            }
         }
     }
 }
