@@ -1,4 +1,7 @@
-// How it is said what holds at an instant that is named.
+// How it is said what holds at an instant that is named; `specs/` says it too.
+
+ghost use Rattle.std.specs.Prelude.{Some};
+ghost use Rattle.words.specs.Texts.{instant_text, standing_text, shown_after, named_text};
 
 use crate::phrases::Words;
 use instant::{Instant, lowest_terms};
@@ -16,6 +19,8 @@ pub struct Named {
 
 // "17 1/2 s", as a time that is shown; n/0, which is no time, as it is.
 impl fmt::Display for Words<Instant> {
+    ghost output = { λ words. Some (instant_text words.0) };
+
     fn fmt<W: fmt::Write>(&self, f: &mut fmt::Formatter<W>) -> fmt::Result {
         let Instant { n, m } = self.0;
         if m == 0 {
@@ -28,6 +33,8 @@ impl fmt::Display for Words<Instant> {
 
 // What an instant is. A conflict time is in the window.
 impl fmt::Display for Words<Standing> {
+    ghost output = { λ words. Some (standing_text words.0) };
+
     fn fmt<W: fmt::Write>(&self, f: &mut fmt::Formatter<W>) -> fmt::Result {
         let Standing {
             in_window,
@@ -62,6 +69,8 @@ struct Shown {
 }
 
 impl fmt::Display for Shown {
+    ghost output = { λ shown. Some (shown_after shown.standing shown.verdict) };
+
     fn fmt<W: fmt::Write>(&self, f: &mut fmt::Formatter<W>) -> fmt::Result {
         let Shown { standing, verdict } = *self;
         let found = standing.lower || standing.upper == Some(true);
@@ -80,6 +89,8 @@ impl fmt::Display for Shown {
 
 // "17 1/2 s is a conflict time; the judge shows 27 s", "20 s is outside the window"
 impl fmt::Display for Named {
+    ghost output = { λ named. Some (named_text named.instant named.answer named.verdict) };
+
     fn fmt<W: fmt::Write>(&self, f: &mut fmt::Formatter<W>) -> fmt::Result {
         let Named {
             instant,
