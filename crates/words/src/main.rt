@@ -3,6 +3,9 @@
 // What is said of a record is what `answering::State` replies, by `answer` and `answer_at`: nothing is judged here.
 #![tactic(auto)]
 
+ghost use Rattle.std.specs.Prelude.{◌≡◌};
+ghost use Rattle.words.specs.NamedInstants.{named};
+
 use answering::State;
 use instant::Instant;
 use question::{Encounter, Refusal};
@@ -112,7 +115,9 @@ fn named(
     given: Record,
     answer: Result<Verdict, Refusal>,
     at: Option<Instant>,
-) -> Option<Named> {
+) -> Option<Named>
+    ensures { result ≡ named state given answer at }
+{
     let instant = at?;
     let verdict = answer.ok()?;
     let answer = state.answer_at(given, instant)?.ok()?;
