@@ -3,7 +3,8 @@
 // What is said of a record is what `answering::State` replies, by `answer` and `answer_at`: nothing is judged here.
 #![tactic(auto)]
 
-ghost use Rattle.std.specs.Prelude.{◌≡◌};
+ghost use Rattle.std.specs.Prelude.{◌≡◌, IfOk, Some};
+ghost use Rattle.words.specs.InstantTexts.{instant_in};
 ghost use Rattle.words.specs.NamedInstants.{named};
 
 use answering::State;
@@ -242,7 +243,9 @@ fn answer_named<R: Print + Eprint + Files>(
 }
 
 // The instant that an argument names; says on standard error where it names none.
-fn read_instant<E: Eprint>(to: &E, text: &[u8]) -> io::Result<Instant> {
+fn read_instant<E: Eprint>(to: &E, text: &[u8]) -> io::Result<Instant>
+    ensures { IfOk result (λ instant. instant_in text.now ≡ Some instant) }
+{
     match str::from_utf8(text).ok().and_then(instant_in) {
         Some(instant) => Ok(instant),
         None => {
