@@ -11,6 +11,7 @@ infixl 10 ◌>>=◌
 abbrev pub ◌>>=◌ : {A B : Type 0} → Option A → (A → Option B) → Option B
 o >>= f = option_and_then f o
 
+-- a number of 64 bits
 abbrev pub fitting : ℕ → Option ℕ
 fitting n = if nat_lt n (2 ^ 64) then Some n else None
 
@@ -24,8 +25,8 @@ parts mark text =
     if nat_lt (position_or_len (λ c. c == mark) text) (length text) then Some (before_first (λ c. c == mark) text, after_first (λ c. c == mark) text) else None
 
 -- w n/m seconds are (w * m + n)/m
-unfoldable pub sum : ℕ → ℕ → ℕ → Option Instant
-sum w n m = do
+unfoldable pub mixed_value : ℕ → ℕ → ℕ → Option Instant
+mixed_value w n m = do
   all ← fitting (w * m + n)
   Some (all ÷ m)
 
@@ -35,7 +36,7 @@ mixed whole above below = do
   w ← number whole
   n ← number above
   m ← number below
-  sum w n m
+  mixed_value w n m
 
 -- "35/2"
 unfoldable pub fraction : List ℕ → List ℕ → Option Instant
@@ -50,7 +51,7 @@ decimal whole places = do
   w ← number whole
   n ← number places
   m ← fitting (10 ^ length places)
-  sum w n m
+  mixed_value w n m
 
 -- "17"
 unfoldable pub whole_number : List ℕ → Option Instant

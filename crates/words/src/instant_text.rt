@@ -2,7 +2,7 @@
 
 ghost use Rattle.std.specs.Prelude.{◌≡◌, ◌<◌, ◌^◌};
 ghost use Rattle.std.specs.Option.{option_map};
-ghost use Rattle.words.specs.InstantTexts.{fitting, number, parts, sum, mixed, fraction, decimal, whole_number, instant_in};
+ghost use Rattle.words.specs.InstantTexts.{fitting, number, parts, mixed_value, mixed, fraction, decimal, whole_number, instant_in};
 
 use instant::Instant;
 
@@ -37,7 +37,7 @@ fn parts(text: &str, mark: char) -> Option<(&str, &str)>
 fn mixed(whole: &str, above: &str, below: &str) -> Option<Instant>
     ensures { result ≡ mixed whole.now above.now below.now }
 {
-    sum(number(whole)?, number(above)?, number(below)?)
+    mixed_value(number(whole)?, number(above)?, number(below)?)
 }
 
 // "35/2"
@@ -55,7 +55,7 @@ fn fraction(above: &str, below: &str) -> Option<Instant>
 fn decimal(whole: &str, places: &str) -> Option<Instant>
     ensures { result ≡ decimal whole.now places.now }
 {
-    sum(number(whole)?, number(places)?, power_of_ten(places.len())?)
+    mixed_value(number(whole)?, number(places)?, power_of_ten(places.len())?)
 }
 
 // "17"
@@ -70,9 +70,9 @@ fn whole_number(text: &str) -> Option<Instant>
 }
 
 // The whole seconds and n/m of a second, as one fraction.
-#[tactic(auto, unfolding(crate::specs::InstantTexts::sum))]
-fn sum(whole: u64, n: u64, m: u64) -> Option<Instant>
-    ensures { result ≡ sum whole n m }
+#[tactic(auto, unfolding(crate::specs::InstantTexts::mixed_value))]
+fn mixed_value(whole: u64, n: u64, m: u64) -> Option<Instant>
+    ensures { result ≡ mixed_value whole n m }
 {
     let n = whole.checked_mul(m)?.checked_add(n)?;
     Some(Instant { n, m })
