@@ -2,7 +2,7 @@
 use mathlib.Core.Path.{sym, ap, ap₂, ◌∙◌}
 use Rattle.question.specs.Refusals.{two_sided}
 use Rattle.verdict.specs.Verdicts.{one_sided_verdict, two_sided_verdict, verdict}
-use Rattle.integers.proofs.Branches.{picks_yes, picks_no}
+use Rattle.std.proofs.lemmas.Bool.{cond-true, cond-false}
 use Rattle.verdict.proofs.open_verdict.Goals as goal
 
 pub returns-then-two_sided : goal.returns-then-two_sided
@@ -10,11 +10,11 @@ unfolding verdict
 returns-then-two_sided c =
     c.two_sided_verdict.ensures
     ∙ ap₂ two_sided_verdict c.time_shown-lower.ensures c.time_shown-upper.ensures
-    ∙ sym (picks_yes (two_sided c.args.question) _ _ (sym c.two_sided.ensures ∙ c.if-two_sided.true))
+    ∙ sym (cond-true (two_sided c.args.question) _ _ (sym c.two_sided.ensures ∙ c.if-two_sided.true))
 
 pub returns : goal.returns
 unfolding verdict
 returns c =
     c.one_sided_verdict.ensures
     ∙ ap one_sided_verdict c.time_shown-lower.ensures
-    ∙ sym (picks_no (two_sided c.args.question) _ _ (sym c.two_sided.ensures ∙ c.if-two_sided.false))
+    ∙ sym (cond-false (two_sided c.args.question) _ _ (sym c.two_sided.ensures ∙ c.if-two_sided.false))
