@@ -2,8 +2,9 @@
 //! them turned can be built: the toolchain itself builds only what is proved.
 //!
 //! Rattle is Rust but for `ghost` lines, the `ghost` fields of structs and items of impls, contract
-//! clauses, the attribute `tactic` and the derived `Drop`. A crate becomes a module of its name, and
-//! each further file of its folder a module in that one; no line moves.
+//! clauses, the attribute `tactic` and the derived `Drop`; and `unwrap` asks no `Debug` of an error, so
+//! each `derive` gets it. A crate becomes a module of its name, and each further file of its folder a
+//! module in that one; no line moves.
 
 use std::fs;
 use std::io;
@@ -183,6 +184,7 @@ impl Blanking {
 fn adapted(line: &str, own: &str, crates: &[String]) -> String {
     let mut line = line
         .replace("#[derive(Drop)]", "")
+        .replace("#[derive(", "#[derive(Debug, ")
         .replace("crate::", &format!("crate::{own}::"));
     for name in crates {
         let places: Vec<usize> = line
@@ -358,7 +360,7 @@ mod tests {
                     pub fn f(x: i64) -> bool\n    requires { x < 1 }\n    ensures big {\n    result ≡ x }\n{\n    (x < 3) & (x == 1)\n}\n\
                     #[derive(Clone, Copy)]\nenum E {\n    A,\n}";
         let wanted = "\n\nuse crate::path::Side;\n// a < b\n\n\n\npub fn f(x: i64) -> bool\n\n\n\n{\n    (x < 3) & (x == 1)\n}\n\
-                      #[derive(Clone, Copy)]\nenum E {\n    A,\n}";
+                      #[derive(Debug, Clone, Copy)]\nenum E {\n    A,\n}";
         assert_eq!(module(text).lines.join("\n"), wanted);
         assert_eq!(
             turned(text),
