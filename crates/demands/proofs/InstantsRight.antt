@@ -1,6 +1,5 @@
 -- The demands of the answer at an instant, from the entry's equation, and against the judge's answer to the same question. Assumes nothing.
 use Rattle.std.specs.Prelude.{Err, None, Ok, Option, Result, Some, ⊤}
-use Rattle.std.proofs.Flags.{T_true}
 use Rattle.std.proofs.lemmas.Bool.{cond-true}
 use Rattle.std.specs.Bool.{passes}
 use mathlib.Core.Path.{◌≡◌, refl, sym, ap, ap₂, ◌∙◌, subst}
@@ -9,6 +8,7 @@ use mathlib.Core.Logic.{◌↔◌, inl, inr}
 use Prim.Native.Nat.{ℕ, ◌*◌, ◌<◌, ◌≤◌}
 use native.Mathlib.Omega.{arith}
 use lib.Dec.{T, leb, eqb, ltb}
+use lib.Ieee.Bits.{is_true}
 use Rattle.instant.specs.declared.Instant.{Instant}
 use Rattle.instant.specs.declared.Time.{Time}
 use Rattle.instant.specs.Order.{◌÷◌, ◌≈◌}
@@ -49,7 +49,7 @@ use Rattle.candidate.specs.FlightAnswers.{yes_number}
 use Rattle.binding.specs.declared.InstantResult.{InstantResult}
 use Rattle.binding.specs.Instants.{side_number, flat_instant}
 use Rattle.demands.specs.Demand3.{ConflictAt, SomeConflict, Shown, Said}
-use Rattle.demands.specs.Instants.{WindowAt, WithinReach, Reached, UpperSaid, RightStanding, RightlyNamed, ShownOn, ClearOn, FoundOn, NamedOn, AgreesAt, DecimalsReached, standing_in, instant_in}
+use Rattle.demands.specs.Instants.{WindowAt, WithinReach, Reached, UpperSaid, RightStanding, RightlyNamed, ShownOn, ClearOn, FoundOn, NamedOn, AgreesAt, standing_in, instant_in}
 use Rattle.demands.proofs.RefusalNumbers.{number_held}
 use Rattle.demands.proofs.PlainAnswers.{limited, spelled, unspelled, judged_as}
 
@@ -58,13 +58,13 @@ module _ (s : SensedQuestion) (n m : ℕ) where
   window_said : (in_window s n m ≡ true) ↔ WindowAt s n m
   window_said = (
     λ e. let w = (window_decided s n m).0 (passes _ e) in record { near = w.near; limited = (limited s.limit n m).0 w.intime },
-    λ w. T_true _ ((window_decided s n m).1 (record { near = w.near; intime = (limited s.limit n m).1 w.limited })),
+    λ w. is_true _ ((window_decided s n m).1 (record { near = w.near; intime = (limited s.limit n m).1 w.limited })),
   )
 
   pub conflict_said : (side : Side) → 1 ≤ m → (in_conflict side s n m ≡ true) ↔ ConflictAt side s n m
   conflict_said side p = (
     λ e. spelled side s n m (record { divisor = p; conflict = (conflict_decided s n m side).0 (passes _ e) }),
-    λ c. T_true _ ((conflict_decided s n m side).1 (unspelled side s n m c).conflict),
+    λ c. is_true _ ((conflict_decided s n m side).1 (unspelled side s n m c).conflict),
   )
 
 pub right_standing : (z : Question) (s : SensedQuestion) (t : Instant) → 1 ≤ t.m → RightStanding (two_sided z) s t.n t.m (standing z s t)
@@ -239,7 +239,7 @@ module _ (x : Encounter) (y : Settings) (z : Question) where
         (
           standing z s t,
           answered x y z t e ∙ ap (λ (b : Bool). Ok (reached_answer b (standing z s t))) reached_t,
-          found_on s z t side two (T_true _ ((conflict_decided s t.n t.m side).1 conflict)),
+          found_on s z t side two (is_true _ ((conflict_decided s t.n t.m side).1 conflict)),
         )
 
     none_named : refusal x y z ≡ Ok tt → (side : Side) → ¬ SomeConflict side s → ¬ NamedOn side (instant_answer x y z t) true

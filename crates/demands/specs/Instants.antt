@@ -3,7 +3,7 @@
 use Rattle.std.specs.Prelude.{◌≡◌, ◌⊎◌, Bool, true, false, cond, ◌↔◌, ℕ, ◌*◌, ◌≤◌, eqb, pos, ◌-ℤ◌, ◌*ℤ◌, nat_abs, Err, None, Ok, Option, Result, Some}
 use Rattle.instant.specs.declared.Instant.{Instant}
 use Rattle.instant.specs.declared.Time.{Time}
-use Rattle.instant.specs.Order.{◌≈◌}
+use Rattle.instant.specs.Order.{◌÷◌, ◌≈◌}
 use Rattle.instant.specs.LowestTerms.{LowestTerms, shows}
 use Rattle.path.specs.declared.SensedQuestion.{SensedQuestion}
 use Rattle.path.specs.declared.Side.{Side}
@@ -19,6 +19,8 @@ use Rattle.sensed.specs.Sensed.{sensed_question}
 use Rattle.verdict.specs.declared.ClearSides.{ClearSides}
 use Rattle.verdict.specs.declared.Verdict.{Verdict}
 use Rattle.verdict.specs.declared.Verdict.TheVariants.{Clear, Conflict, Conflicts}
+use Rattle.named_instant.specs.Reach.{value, in_reach}
+use Rattle.named_instant.proofs.InReach as reach
 use Rattle.named_instant.specs.declared.Standing.{Standing}
 use Rattle.named_instant.specs.declared.InstantAnswer.{InstantAnswer}
 use Rattle.named_instant.specs.declared.InstantAnswer.TheVariants.{Judged, OutOfReach}
@@ -98,8 +100,8 @@ abbrev pub OneAnswer : Instant → Instant → Result InstantAnswer Refusal → 
 OneAnswer t u a b = 1 ≤ t.m → 1 ≤ u.m → t ≈ u → a ≡ b
 
 -- every decimal of three places up to 12,000 s is in reach
-abbrev pub DecimalsReached : Type 0
-DecimalsReached = (n : ℕ) → n ≤ 12000 * 1000 → Reached n 1000
+pub decimals_reached : (n : ℕ) → n ≤ 12000 * 1000 → in_reach (value (n ÷ 1000)) ≡ true
+decimals_reached = reach.decimals_reached
 
 -- the answer in the struct of numbers that C and Rust get: 1 for "is so"; of a side 2 for a conflict time, 0 where it is not asked
 abbrev pub standing_in : InstantResult → Standing

@@ -45,3 +45,7 @@ module _ (t : Instant) (p : 0 < t.m) where
     (positive_divisor, omega (arith, smaller_divisor, h.m_hi)),
     inr (omega (arith, smaller_divisor, positive_divisor, e), omega (arith, smaller_numerator, h.n_hi)),
   )
+
+-- a decimal of three places is n/1000
+pub decimals_reached : (n : ℕ) → n ≤ 12000 * 1000 → in_reach (value (n ÷ 1000)) ≡ true
+decimals_reached n h = compared_reached (n ÷ 1000) (omega arith) (inl (record { n_hi = omega arith; m_lo = omega arith; m_hi = omega arith }))
