@@ -127,26 +127,23 @@ instant_held (Err why) = number_held why _
 instant_held (Ok OutOfReach) = refl
 instant_held (Ok (Judged found)) = ap (λ (f : Standing). Ok (Judged f)) (standing_held found)
 
-numbered : Result InstantAnswer Refusal → Result InstantAnswer ℕ
+abbrev numbered : Result InstantAnswer Refusal → Result InstantAnswer ℕ
 numbered a = with_number a
 
 -- ---- of the entry's result
 module _ (x : Encounter) (y : Settings) (z : Question) (t : Instant) where
-  s : SensedQuestion
-  s = sensed_question x y z
-
   refused : (why : Refusal) → refusal x y z ≡ Err why → instant_answer x y z t ≡ Err why
   unfolding instant_answer
-  refused why e = ap (λ (c : Result ⊤ Refusal). checked_instant c (reached_answer (in_reach (value t)) (standing z s t))) e
+  refused why e = ap (λ (c : Result ⊤ Refusal). checked_instant c (reached_answer (in_reach (value t)) (standing z (sensed_question x y z) t))) e
 
-  by_reach : (b : Bool) → refusal x y z ≡ Ok tt → in_reach (value t) ≡ b → with_number (instant_answer x y z t) ≡ Ok (reached_answer b (standing z s t))
-  by_reach b e h = ap numbered (answered x y z t e ∙ ap (λ (b : Bool). Ok (reached_answer b (standing z s t))) h)
+  by_reach : (b : Bool) → refusal x y z ≡ Ok tt → in_reach (value t) ≡ b → with_number (instant_answer x y z t) ≡ Ok (reached_answer b (standing z (sensed_question x y z) t))
+  by_reach b e h = ap numbered (answered x y z t e ∙ ap (λ (b : Bool). Ok (reached_answer b (standing z (sensed_question x y z) t))) h)
 
   pub rightly_named : RightlyNamed x y z t (with_number (instant_answer x y z t))
   rightly_named = record {
     refused = λ why e. ap numbered (refused why e);
     out_of_reach = λ e h. by_reach false e (is_false (in_reach (value t)) (λ r. h (reached t r)));
-    judged = λ e r. (standing z s t, by_reach true e (reach_found t r), right_standing z s t r.rational);
+    judged = λ e r. (standing z (sensed_question x y z) t, by_reach true e (reach_found t r), right_standing z (sensed_question x y z) t r.rational);
   }
 
   -- in the struct of numbers
@@ -206,59 +203,56 @@ module _ (s : SensedQuestion) where
       go false c f = absurd cc
 
 module _ (x : Encounter) (y : Settings) (z : Question) where
-  s : SensedQuestion
-  s = sensed_question x y z
-
   accepted_where_judged : (v : Verdict) → answer x y z ≡ Ok v → refusal x y z ≡ Ok tt
   unfolding answer
   accepted_where_judged v e = go (refusal x y z) refl e
     where
-      go : (r : Result ⊤ Refusal) → refusal x y z ≡ r → checked_answer r (verdict z s) ≡ Ok v → refusal x y z ≡ Ok tt
+      go : (r : Result ⊤ Refusal) → refusal x y z ≡ r → checked_answer r (verdict z (sensed_question x y z)) ≡ Ok v → refusal x y z ≡ Ok tt
       go (Ok _) h f = h
       go (Err why) h f = absurd cc
 
-  said_where_judged : (v : Verdict) → answer x y z ≡ Ok v → Said (two_sided z) s v
+  said_where_judged : (v : Verdict) → answer x y z ≡ Ok v → Said (two_sided z) (sensed_question x y z) v
   said_where_judged v e =
       let j = judged_as x y z (accepted_where_judged v e) in
       let same : j.0 ≡ v = cc in
-      subst (Said (two_sided z) s) same j.2.said
+      subst (Said (two_sided z) (sensed_question x y z)) same j.2.said
 
-  sized : (side : Side) → refusal x y z ≡ Ok tt → (side ≡ Upper → two_sided z ≡ true) → Sized side s
+  sized : (side : Side) → refusal x y z ≡ Ok tt → (side ≡ Upper → two_sided z ≡ true) → Sized side (sensed_question x y z)
   sized Lower e two = accepted_sizes x y z e
   sized Upper e two = (accepted_sizes x y z e, accepted_upper_sizes x y z e (two refl))
 
   module _ (t : Instant) where
-    shown_named : refusal x y z ≡ Ok tt → (side : Side) (time : Time) → Shown side s time → (side ≡ Upper → two_sided z ≡ true) → 1 ≤ t.m → t ≈ shows time → NamedOn side (instant_answer x y z t) true
+    shown_named : refusal x y z ≡ Ok tt → (side : Side) (time : Time) → Shown side (sensed_question x y z) time → (side ≡ Upper → two_sided z ≡ true) → 1 ≤ t.m → t ≈ shows time → NamedOn side (instant_answer x y z t) true
     shown_named e side time h two p is =
         let u : Instant = h.n ÷ h.m in
         let pu = h.conflict.rational in
         let same : t ≈ u = ≈-trans t (shows time) u (omega (arith, h.lowest.below)) is h.lowest.value in
-        let conflict = same_conflict s u t pu (sym same) side (unspelled side s h.n h.m h.conflict).conflict in
-        let reach = compared_reached u pu (picked_compared side s (sized side e two) u h.picked) in
+        let conflict = same_conflict (sensed_question x y z) u t pu (sym same) side (unspelled side (sensed_question x y z) h.n h.m h.conflict).conflict in
+        let reach = compared_reached u pu (picked_compared side (sensed_question x y z) (sized side e two) u h.picked) in
         let reached_t : in_reach (value t) ≡ true = subst (λ (w : Time). in_reach (shows w) ≡ true) (sym ((lowest_same t.n t.m h.n h.m p pu).1 same)) reach in
         (
-          standing z s t,
-          answered x y z t e ∙ ap (λ (b : Bool). Ok (reached_answer b (standing z s t))) reached_t,
-          found_on s z t side two (is_true _ ((conflict_decided s t.n t.m side).1 conflict)),
+          standing z (sensed_question x y z) t,
+          answered x y z t e ∙ ap (λ (b : Bool). Ok (reached_answer b (standing z (sensed_question x y z) t))) reached_t,
+          found_on (sensed_question x y z) z t side two (is_true _ ((conflict_decided (sensed_question x y z) t.n t.m side).1 conflict)),
         )
 
-    none_named : refusal x y z ≡ Ok tt → (side : Side) → ¬ SomeConflict side s → ¬ NamedOn side (instant_answer x y z t) true
+    none_named : refusal x y z ≡ Ok tt → (side : Side) → ¬ SomeConflict side (sensed_question x y z) → ¬ NamedOn side (instant_answer x y z t) true
     none_named e side none (found, is, on) = go (in_reach (value t)) refl
       where
         go : (b : Bool) → in_reach (value t) ≡ b → ⊥
         go true h =
             let p = reached_divisor t h in
-            let same : standing z s t ≡ found = judged_is (sym (answered x y z t e ∙ ap (λ (b : Bool). Ok (reached_answer b (standing z s t))) h) ∙ is) in
-            let c = conflict_found s z t side (subst (λ (f : Standing). FoundOn side f true) (sym same) on) in
-            none (t.n, t.m, (conflict_said s t.n t.m side p).0 c)
-        go false h = out_is (sym (answered x y z t e ∙ ap (λ (b : Bool). Ok (reached_answer b (standing z s t))) h) ∙ is)
+            let same : standing z (sensed_question x y z) t ≡ found = judged_is (sym (answered x y z t e ∙ ap (λ (b : Bool). Ok (reached_answer b (standing z (sensed_question x y z) t))) h) ∙ is) in
+            let c = conflict_found (sensed_question x y z) z t side (subst (λ (f : Standing). FoundOn side f true) (sym same) on) in
+            none (t.n, t.m, (conflict_said (sensed_question x y z) t.n t.m side p).0 c)
+        go false h = out_is (sym (answered x y z t e ∙ ap (λ (b : Bool). Ok (reached_answer b (standing z (sensed_question x y z) t))) h) ∙ is)
 
     pub agrees_at : AgreesAt t (answer x y z) (instant_answer x y z t)
     agrees_at = record {
       shown = λ side v time e on p is.
-          let h = shown_of s (two_sided z) v (said_where_judged v e) side time on in
+          let h = shown_of (sensed_question x y z) (two_sided z) v (said_where_judged v e) side time on in
           shown_named (accepted_where_judged v e) side time h.0 h.1 p is;
-      clear = λ side v e c. none_named (accepted_where_judged v e) side (clear_none s (two_sided z) v (said_where_judged v e) side c);
+      clear = λ side v e c. none_named (accepted_where_judged v e) side (clear_none (sensed_question x y z) (two_sided z) v (said_where_judged v e) side c);
     }
 
 -- ---- of results that are the answers

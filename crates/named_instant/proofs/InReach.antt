@@ -6,11 +6,12 @@ use Rattle.std.proofs.lemmas.Bool.{leb-true, le-leb}
 use mathlib.Core.Path.{◌≡◌}
 use mathlib.Core.Bool.{true}
 use mathlib.Core.Logic.{◌⊎◌, inl, inr}
-use Prim.Native.Nat.{ℕ, ◌<◌, ◌≤◌}
+use Prim.Native.Nat.{ℕ, ◌*◌, ◌<◌, ◌≤◌}
 use native.Mathlib.Nat.{mul-le-mul_left, le_of_mul-le-mul_right}
 use native.Mathlib.Omega.{arith}
 use lib.Dec.{leb}
 use Rattle.instant.specs.declared.Instant.{Instant}
+use Rattle.instant.specs.Order.{◌÷◌}
 use Rattle.instant.proofs.LowestTerms.{lowest_is, divisor_le}
 use Rattle.path.specs.declared.Side.TheVariants.{Lower}
 use Rattle.path.specs.inner.Sizes.{Compared}
