@@ -427,7 +427,5 @@ pub fn judge_at(
 ) -> InstantResult
     ensures { result ≡ flat_instant (instant_answer encounter settings question instant) }
 {
-    InstantResult::from(named_instant::judge_at(
-        encounter, settings, question, instant,
-    ))
+    InstantResult::from(named_instant::judge_at(encounter, settings, question, instant))
 }

@@ -17,8 +17,8 @@ ghost use Rattle.named_instant.specs.InstantAnswers.{instant_answer};
 ghost use Rattle.binding.specs.Screen.{flat_content, flat_point};
 
 use binding::{
-    DrawingResult, FlightResult, InstantResult, JudgeResult, PointResult, SheetResult, plain_advice,
-    plain_encounter, plain_question, plain_settings,
+    DrawingResult, FlightResult, InstantResult, JudgeResult, PointResult, SheetResult,
+    plain_advice, plain_encounter, plain_question, plain_settings,
 };
 use instant::Instant;
 

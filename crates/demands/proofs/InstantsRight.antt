@@ -229,8 +229,7 @@ module _ (x : Encounter) (y : Settings) (z : Question) where
         let same : t ≈ u = ≈-trans t (shows time) u (omega (arith, h.lowest.below)) is h.lowest.value in
         let conflict = same_conflict (sensed_question x y z) u t pu (sym same) side (unspelled side (sensed_question x y z) h.n h.m h.conflict).conflict in
         let reach = compared_reached u pu (picked_compared side (sensed_question x y z) (sized side e two) u h.picked) in
-        let reached_t : in_reach (value t) ≡ true = subst (λ (w : Time). in_reach (shows w) ≡ true) (sym ((lowest_same t.n t.m h.n h.m p pu).1 same)) reach in
-        (
+        let reached_t : in_reach (value t) ≡ true = subst (λ (w : Time). in_reach (shows w) ≡ true) (sym ((lowest_same t.n t.m h.n h.m p pu).1 same)) reach in (
           standing z (sensed_question x y z) t,
           answered x y z t e ∙ ap (λ (b : Bool). Ok (reached_answer b (standing z (sensed_question x y z) t))) reached_t,
           found_on (sensed_question x y z) z t side two (is_true _ ((conflict_decided (sensed_question x y z) t.n t.m side).1 conflict)),

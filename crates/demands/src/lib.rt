@@ -14,8 +14,8 @@ ghost use Rattle.demands.specs.Instants.{RightlyNamed, AgreesAt, OneAnswer, inst
 ghost use Rattle.demands.specs.Screen.{RightlyDrawn, RightlyPlaced, content_in, point_in};
 
 use binding::{
-    DrawingResult, FlightResult, InstantResult, JudgeResult, PointResult, SheetResult, answer_sheet_bytes,
-    judge_plain,
+    DrawingResult, FlightResult, InstantResult, JudgeResult, PointResult, SheetResult,
+    answer_sheet_bytes, judge_plain,
 };
 use candidate::{Flown, OneSidedAdvice};
 use conflict::positive_difference;
@@ -221,7 +221,10 @@ pub fn two_instants_demanded(
     question: Question,
     first: Instant,
     second: Instant,
-) -> (Result<InstantAnswer, Refusal>, Result<InstantAnswer, Refusal>)
+) -> (
+    Result<InstantAnswer, Refusal>,
+    Result<InstantAnswer, Refusal>,
+)
     ensures { OneAnswer first second result.0 result.1 }
 {
     (
