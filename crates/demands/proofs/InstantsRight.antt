@@ -150,15 +150,13 @@ module _ (x : Encounter) (y : Settings) (z : Question) (t : Instant) where
   pub rightly_exported : (out : InstantResult) → out ≡ flat_instant (instant_answer x y z t) → RightlyNamed x y z t (instant_in out)
   rightly_exported out e = subst (RightlyNamed x y z t) (sym (ap instant_in e ∙ instant_held (instant_answer x y z t))) rightly_named
 
--- ---- the answer at a value, and the decimals
+-- ---- the answer at a value
 pub one_answer : (x : Encounter) (y : Settings) (z : Question) (t u : Instant) → 1 ≤ t.m → 1 ≤ u.m → t ≈ u → instant_answer x y z t ≡ instant_answer x y z u
 unfolding instant_answer
 one_answer x y z t u p q e = ap₂ (λ (b : Bool) (f : Standing). checked_instant (refusal x y z) (reached_answer b f))
     (ap (λ (w : Time). in_reach (shows w)) ((lowest_same t.n t.m u.n u.m p q).1 e))
     (same_standing (sensed_question x y z) t u p q e z)
 
-pub decimals_reached : DecimalsReached
-decimals_reached n h = reached (n ÷ 1000) (compared_reached (n ÷ 1000) (omega arith) (inl (record { n_hi = omega arith; m_lo = omega arith; m_hi = omega arith })))
 
 -- ---- against the judge's answer to the same question
 module _ (s : SensedQuestion) where
