@@ -214,7 +214,6 @@ pub fn instant_and_verdict_demanded(
 }
 
 // The answers at two instants.
-#[tactic(auto, using(crate::proofs::InstantsRight::one))]
 pub fn two_instants_demanded(
     encounter: Encounter,
     settings: Settings,
