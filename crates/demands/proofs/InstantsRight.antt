@@ -157,7 +157,6 @@ one_answer x y z t u p q e = ap₂ (λ (b : Bool) (f : Standing). checked_instan
     (ap (λ (w : Time). in_reach (shows w)) ((lowest_same t.n t.m u.n u.m p q).1 e))
     (same_standing (sensed_question x y z) t u p q e z)
 
-
 -- ---- against the judge's answer to the same question
 module _ (s : SensedQuestion) where
   -- a time that the verdict shows on a side is shown there, and only a two-sided verdict shows one on the upper
