@@ -1,4 +1,4 @@
-/* A host in C: judges questions of plain numbers, draws one, judges flights, and answers sheets. `compare/hosts` builds and runs it; by hand, from the repository's root:
+/* A host in C: judges questions of plain numbers and instants, draws one, judges flights, and answers sheets. `compare/hosts` builds and runs it; by hand, from the repository's root:
  *     tools/archive
  *     cc -Iinclude -o host examples/host.c target/staticlib/libbinding.a && ./host examples/whole_example.sheet
  */
@@ -27,6 +27,17 @@ static void show(const char *name, JudgeResult answer)
 static JudgeResult climb(int64_t h, int64_t strength)
 {
     return judge_plain(300000, h, 10000, 0, 0, 30000, 6000, 966, LIFGORUND_ONE_SIDED, LIFGORUND_CLIMB, 1500, 0, strength, 0, 0, LIFGORUND_NO_LIMIT);
+}
+
+/* Such a climb at the instant n/m. */
+static void at(const char *name, int64_t h, uint64_t n, uint64_t m)
+{
+    InstantResult answer = judge_at(300000, h, 10000, 0, 0, 30000, 6000, 966, LIFGORUND_ONE_SIDED, LIFGORUND_CLIMB, 1500, 0, 500, 0, 0, LIFGORUND_NO_LIMIT, n, m);
+    const char *lower = answer.lower == LIFGORUND_CONFLICT_TIME ? "a conflict time" : "no conflict time";
+    if (answer.refusal == LIFGORUND_ACCEPTED && answer.in_reach)
+        printf("%s at %" PRIu64 "/%" PRIu64 " s: %s the window, %s, upper side %" PRIu64 "\n", name, n, m, answer.in_window ? "in" : "outside", lower, answer.upper);
+    else
+        printf("%s at %" PRIu64 "/%" PRIu64 " s: refusal %" PRIu64 ", in reach %" PRIu64 "\n", name, n, m, answer.refusal, answer.in_reach);
 }
 
 static void show_piece(PieceResult piece)
@@ -85,6 +96,10 @@ int main(int argc, char **argv)
     show("M2", climb(32250, 500));
     show("M13", judge_plain(0, 6000, 0, 0, 0, 30000, 6000, 966, LIFGORUND_TWO_SIDED, LIFGORUND_CLIMB, 0, 0, 500, 500, 0, LIFGORUND_NO_LIMIT));
     show("strength 0", climb(32250, 0));
+    at("M1", 32249, 27, 1);
+    at("M2", 32250, 54, 2);
+    at("M2", 32250, 20, 1);
+    at("M2", 32250, 27, 0);
     draw();
     point(15);
     point(LIFGORUND_LAST_SECOND + 1);

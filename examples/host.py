@@ -1,4 +1,4 @@
-"""A host in Python: judges questions of plain numbers, draws one, judges flights, and answers sheets. `compare/hosts` builds the shared library and runs it; by hand, from
+"""A host in Python: judges questions of plain numbers and instants, draws one, judges flights, and answers sheets. `compare/hosts` builds the shared library and runs it; by hand, from
 the repository's root:
     tools/archive
     cc -shared -o liblifgorund.so -Wl,--whole-archive target/staticlib/libbinding.a -Wl,--no-whole-archive
@@ -10,6 +10,7 @@ import sys
 
 ONE_SIDED, TWO_SIDED, CLIMB, NO_LIMIT = 1, 2, 1, 65535
 CLEAR, CONFLICTS, REFUSED = 65, 67, 68
+CONFLICT_TIME = 2
 ARC, LAST_SECOND = 2, 600
 AMPLE_AREA = 26624
 
@@ -17,6 +18,10 @@ AMPLE_AREA = 26624
 class JudgeResult(ctypes.Structure):
     _fields_ = [(name, ctypes.c_uint64) for name in (
         "kind", "number", "lower_seconds", "lower_remainder", "lower_divisor", "upper_seconds", "upper_remainder", "upper_divisor")]
+
+
+class InstantResult(ctypes.Structure):
+    _fields_ = [(name, ctypes.c_uint64) for name in ("refusal", "in_reach", "in_window", "lower", "upper")]
 
 
 class PieceResult(ctypes.Structure):
@@ -43,6 +48,8 @@ class SheetResult(ctypes.Structure):
 library = ctypes.CDLL(sys.argv[1])
 library.judge_plain.argtypes = [ctypes.c_int64] * 16
 library.judge_plain.restype = JudgeResult
+library.judge_at.argtypes = [ctypes.c_int64] * 16 + [ctypes.c_uint64] * 2
+library.judge_at.restype = InstantResult
 library.screen_drawing.argtypes = [ctypes.c_int64] * 16
 library.screen_drawing.restype = DrawingResult
 library.screen_point.argtypes = [ctypes.c_int64] * 16 + [ctypes.c_uint64]
@@ -66,6 +73,17 @@ def show(name, answer):
 def climb(h, strength):
     """Climb to 1,500 from level flight, 300,000 grains ahead of an intruder at height h that closes at 10,000."""
     return library.judge_plain(300000, h, 10000, 0, 0, 30000, 6000, 966, ONE_SIDED, CLIMB, 1500, 0, strength, 0, 0, NO_LIMIT)
+
+
+def at(name, h, n, m):
+    """Such a climb at the instant n/m."""
+    answer = library.judge_at(300000, h, 10000, 0, 0, 30000, 6000, 966, ONE_SIDED, CLIMB, 1500, 0, 500, 0, 0, NO_LIMIT, n, m)
+    if answer.refusal == 0 and answer.in_reach:
+        window = "in" if answer.in_window else "outside"
+        lower = "a conflict time" if answer.lower == CONFLICT_TIME else "no conflict time"
+        print(f"{name} at {n}/{m} s: {window} the window, {lower}, upper side {answer.upper}")
+    else:
+        print(f"{name} at {n}/{m} s: refusal {answer.refusal}, in reach {answer.in_reach}")
 
 
 # The question of code 12, climb to 1,500, from level flight.
@@ -105,6 +123,10 @@ show("M1", climb(32249, 500))
 show("M2", climb(32250, 500))
 show("M13", library.judge_plain(0, 6000, 0, 0, 0, 30000, 6000, 966, TWO_SIDED, CLIMB, 0, 0, 500, 500, 0, NO_LIMIT))
 show("strength 0", climb(32250, 0))
+at("M1", 32249, 27, 1)
+at("M2", 32250, 54, 2)
+at("M2", 32250, 20, 1)
+at("M2", 32250, 27, 0)
 draw()
 point(15)
 point(LAST_SECOND + 1)

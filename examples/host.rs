@@ -1,4 +1,4 @@
-//! A host in Rust: judges questions of plain numbers, draws one, judges flights, and answers sheets. `compare/hosts` builds and runs it; by hand, from the repository's root:
+//! A host in Rust: judges questions of plain numbers and instants, draws one, judges flights, and answers sheets. `compare/hosts` builds and runs it; by hand, from the repository's root:
 //!     tools/archive
 //!     rustc -L native=target/staticlib -o host examples/host.rs && ./host examples/whole_example.sheet
 //! include/lifgorund.h says what each argument and each field is.
@@ -10,6 +10,7 @@ const NO_LIMIT: i64 = 65_535;
 const CLEAR: u64 = 65;
 const CONFLICTS: u64 = 67;
 const REFUSED: u64 = 68;
+const CONFLICT_TIME: u64 = 2;
 const ARC: u64 = 2;
 const LAST_SECOND: u64 = 600;
 const AMPLE_AREA: usize = 26_624;
@@ -24,6 +25,15 @@ struct JudgeResult {
     upper_seconds: u64,
     upper_remainder: u64,
     upper_divisor: u64,
+}
+
+#[repr(C)]
+struct InstantResult {
+    refusal: u64,
+    in_reach: u64,
+    in_window: u64,
+    lower: u64,
+    upper: u64,
 }
 
 #[repr(C)]
@@ -77,6 +87,12 @@ unsafe extern "C" {
     ) -> JudgeResult;
 
     #[rustfmt::skip]
+    safe fn judge_at(
+        r: i64, h: i64, c: i64, v: i64, vi: i64, p: i64, k: i64, e: i64, sides: i64, sense: i64,
+        target: i64, upper_target: i64, strength: i64, upper_strength: i64, delay: i64, limit: i64, n: u64, m: u64,
+    ) -> InstantResult;
+
+    #[rustfmt::skip]
     safe fn screen_drawing(
         r: i64, h: i64, c: i64, v: i64, vi: i64, p: i64, k: i64, e: i64, sides: i64, sense: i64,
         target: i64, upper_target: i64, strength: i64, upper_strength: i64, delay: i64, limit: i64,
@@ -123,6 +139,18 @@ fn climb(h: i64, strength: i64) -> JudgeResult {
     judge_plain(300_000, h, 10_000, 0, 0, 30_000, 6_000, 966, ONE_SIDED, CLIMB, 1_500, 0, strength, 0, 0, NO_LIMIT)
 }
 
+/// Such a climb at the instant n/m.
+fn at(name: &str, h: i64, n: u64, m: u64) {
+    let answer = judge_at(300_000, h, 10_000, 0, 0, 30_000, 6_000, 966, ONE_SIDED, CLIMB, 1_500, 0, 500, 0, 0, NO_LIMIT, n, m);
+    if answer.refusal == 0 && answer.in_reach == 1 {
+        let window = if answer.in_window == 1 { "in" } else { "outside" };
+        let lower = if answer.lower == CONFLICT_TIME { "a conflict time" } else { "no conflict time" };
+        println!("{name} at {n}/{m} s: {window} the window, {lower}, upper side {}", answer.upper);
+    } else {
+        println!("{name} at {n}/{m} s: refusal {}, in reach {}", answer.refusal, answer.in_reach);
+    }
+}
+
 /// The question of code 12, climb to 1,500, from level flight: its drawing.
 fn draw() {
     let drawing = screen_drawing(0, 0, 0, 0, 0, 30_000, 6_000, 966, ONE_SIDED, CLIMB, 1_500, 0, 483, 0, 5, NO_LIMIT);
@@ -165,6 +193,10 @@ fn main() -> std::io::Result<()> {
     show("M2", climb(32_250, 500));
     show("M13", judge_plain(0, 6_000, 0, 0, 0, 30_000, 6_000, 966, TWO_SIDED, CLIMB, 0, 0, 500, 500, 0, NO_LIMIT));
     show("strength 0", climb(32_250, 0));
+    at("M1", 32_249, 27, 1);
+    at("M2", 32_250, 54, 2);
+    at("M2", 32_250, 20, 1);
+    at("M2", 32_250, 27, 0);
     draw();
     point(15);
     point(LAST_SECOND + 1);

@@ -114,6 +114,40 @@ JudgeResult judge_plain(
     int64_t delay,          /* before the advice is followed, in whole seconds. 0 to 60 */
     int64_t limit);         /* until when to judge, in whole seconds. 0 to 600, or LIFGORUND_NO_LIMIT */
 
+/* Of a side at an instant. */
+enum {
+    LIFGORUND_SIDE_NOT_ASKED = 0,   /* one-sided, the upper side; refused or out of reach, both */
+    LIFGORUND_NO_CONFLICT_TIME = 1, /* the instant is outside the window, or the intruder is beyond the puck on this side */
+    LIFGORUND_CONFLICT_TIME = 2
+};
+
+/* The reach of judge_at: of a fraction in lowest terms the greatest divisor and the greatest numerator; of whole seconds, the last. */
+enum {
+    LIFGORUND_GREATEST_DIVISOR = 150000,
+    LIFGORUND_GREATEST_NUMERATOR = 12060000,
+    LIFGORUND_LAST_WHOLE_SECOND = 201680060
+};
+
+/* What judge_at answers. What is not used is 0; out of reach all is 0. */
+typedef struct InstantResult {
+    uint64_t refusal;   /* LIFGORUND_ACCEPTED, or that of judge_plain */
+    uint64_t in_reach;  /* 1 if the instant is judged, 0 if it is out of reach */
+    uint64_t in_window; /* 1 if it is in the window: from 0 to the limit, the intruder horizontally within the puck, edge included; else 0 */
+    uint64_t lower;     /* LIFGORUND_CONFLICT_TIME or LIFGORUND_NO_CONFLICT_TIME */
+    uint64_t upper;     /* the same; one-sided LIFGORUND_SIDE_NOT_ASKED */
+} InstantResult;
+
+/* Judges the instant n/m, in seconds, against a question of plain numbers, those of judge_plain: is it in the window, and on each side asked is it a conflict
+ * time? An instant is judged by its value: 54/2 is 27/1. It is in reach if in lowest terms its divisor is at most LIFGORUND_GREATEST_DIVISOR and its numerator at
+ * most LIFGORUND_GREATEST_NUMERATOR, or if it is a whole second up to LIFGORUND_LAST_WHOLE_SECOND. So in reach are every decimal of three places up to 12,000 s and
+ * every time that judge_plain shows, which is a conflict time on its side. With m = 0 it is no time, and out of reach. Of a refused question the refusal is said,
+ * whatever the instant. Every argument may have any value. It writes no memory. */
+InstantResult judge_at(
+    int64_t r, int64_t h, int64_t c, int64_t v, int64_t vi, int64_t p, int64_t k, int64_t e, int64_t sides, int64_t sense,
+    int64_t target, int64_t upper_target, int64_t strength, int64_t upper_strength, int64_t delay, int64_t limit,
+    uint64_t n,  /* the instant's numerator */
+    uint64_t m); /* and its divisor */
+
 /* The kinds of a piece of path: the degree of its polynomial. */
 enum {
     LIFGORUND_NO_PIECE = 0,

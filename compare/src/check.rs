@@ -1,4 +1,4 @@
-//! What a run checks of each question, flight and sheet without the proved judge, and what it counts.
+//! What a run checks of each question, instant, flight and sheet without the proved judge, and what it counts.
 
 use crate::catalogue::CATALOGUE;
 use crate::edges::{self, EDGES, POSITIONS};
@@ -10,6 +10,7 @@ use crate::generate::{self, AREA_FORMS, AreaForm, Random, SHEET_FORMS, SheetCase
 use crate::independent::{
     Accepted, Answer, FIELDS, Moment, NAMES, Question, REFUSALS, Side, judge, judge_accepted,
 };
+use crate::instant::{self, INSTANT_CLASSES, InstantAnswer, InstantCase, Known};
 use crate::motion;
 use crate::screen::{self, DRAWING_CLASSES, Drawing, POINT_CLASSES, Point};
 use crate::sheet;
@@ -45,6 +46,8 @@ pub struct Tally {
     point_classes: [u64; POINT_CLASSES.len()],
     flights: u64,
     flight_classes: [u64; FLIGHT_CLASSES.len()],
+    instants: u64,
+    instant_classes: [u64; INSTANT_CLASSES.len()],
     sheets: u64,
     sheet_forms: [u64; SHEET_FORMS.len()],
     area_forms: [u64; AREA_FORMS.len()],
@@ -88,6 +91,8 @@ impl Default for Tally {
             point_classes: [0; POINT_CLASSES.len()],
             flights: 0,
             flight_classes: [0; FLIGHT_CLASSES.len()],
+            instants: 0,
+            instant_classes: [0; INSTANT_CLASSES.len()],
             sheets: 0,
             sheet_forms: [0; SHEET_FORMS.len()],
             area_forms: [0; AREA_FORMS.len()],
@@ -347,6 +352,28 @@ impl Tally {
         seen.answer
     }
 
+    /// That each time shown of a question is a conflict time.
+    pub fn shown(&mut self, known: &Known) {
+        if let Some(fault) = instant::shown_unsound(known) {
+            self.differ(|| format!("question {}\n  {fault}", known.question));
+        }
+    }
+
+    /// Counts an instant of a question, holds its answer against the other decisions, and gives it.
+    pub fn instant(&mut self, known: &Known, case: &InstantCase) -> InstantAnswer {
+        let answer = instant::answer(known, case);
+        if let Some(fault) = instant::unsound(known, case, answer) {
+            let InstantCase { question, n, m } = case;
+            self.differ(|| format!("question {question}\n  instant {n}/{m}\n  {fault}"));
+        }
+        let seen = instant::Seen::of(known, *case, answer);
+        self.instants += 1;
+        for (n, (_, holds)) in self.instant_classes.iter_mut().zip(INSTANT_CLASSES) {
+            *n += u64::from(holds(&seen));
+        }
+        answer
+    }
+
     /// Counts a sheet, and gives its expected outcome and the area before and after.
     pub fn sheet(&mut self, case: &SheetCase) -> ExpectedSheet {
         let whole = sheet::answer_bytes(&case.sheet);
@@ -406,6 +433,9 @@ impl Tally {
         }
         if self.drawings > 0 {
             self.report_screen(&mut out);
+        }
+        if self.instants > 0 {
+            self.report_instants(&mut out);
         }
         if self.flights > 0 {
             self.report_flights(&mut out);
@@ -468,6 +498,13 @@ impl Tally {
         }
         out.title(&format!("screen points: {}", self.points));
         for (n, (text, _)) in self.point_classes.iter().zip(POINT_CLASSES) {
+            out.line(*n, text);
+        }
+    }
+
+    fn report_instants(&self, out: &mut Report) {
+        out.title(&format!("instants: {}", self.instants));
+        for (n, (text, _)) in self.instant_classes.iter().zip(INSTANT_CLASSES) {
             out.line(*n, text);
         }
     }

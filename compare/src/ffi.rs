@@ -5,6 +5,7 @@
 
 use crate::flight::{FlightAnswer, FlightCase, Flown};
 use crate::independent::{Answer, Question, Time};
+use crate::instant::{InstantAnswer, InstantCase, Judged, Standing};
 use crate::screen::{Drawing, Piece, Point};
 use std::ffi::{CString, c_char, c_int, c_void};
 
@@ -77,6 +78,18 @@ pub struct FlightResult {
     pub second: u64,
 }
 
+/// What is said of an instant: refusal 0, whether it is in reach, in the window (1 or 0), and of each side 2 for a
+/// conflict time, 1 for none, 0 where the side is not asked; or the refusal and zeros. Out of reach all are 0.
+#[repr(C)]
+#[derive(Clone, Copy, Debug, PartialEq, Eq)]
+pub struct InstantResult {
+    pub refusal: u64,
+    pub in_reach: u64,
+    pub in_window: u64,
+    pub lower: u64,
+    pub upper: u64,
+}
+
 /// A function of the sixteen plain numbers.
 type OfNumbers<R> = unsafe extern "C" fn(
     i64,
@@ -117,6 +130,28 @@ type OfSecond = unsafe extern "C" fn(
     i64,
     u64,
 ) -> PointResult;
+
+/// `judge_at`: the sixteen plain numbers, and n and m.
+type OfInstant = unsafe extern "C" fn(
+    i64,
+    i64,
+    i64,
+    i64,
+    i64,
+    i64,
+    i64,
+    i64,
+    i64,
+    i64,
+    i64,
+    i64,
+    i64,
+    i64,
+    i64,
+    i64,
+    u64,
+    u64,
+) -> InstantResult;
 
 /// `judge_flight`: encounter, puck and e, a one-sided advice, and a flight's numbers, a pointer and
 /// their count.
@@ -187,6 +222,33 @@ fn asked_at(of_second: OfSecond, q: &Question, second: u64) -> PointResult {
             q.delay,
             q.limit,
             second,
+        )
+    }
+}
+
+fn named(of_instant: OfInstant, case: &InstantCase) -> InstantResult {
+    let InstantCase { question: q, n, m } = case;
+    // SAFETY: eighteen numbers by value; every such function takes any and writes no memory.
+    unsafe {
+        of_instant(
+            q.r,
+            q.h,
+            q.c,
+            q.v,
+            q.vi,
+            q.p,
+            q.k,
+            q.e,
+            q.sides,
+            q.sense,
+            q.target,
+            q.upper_target,
+            q.strength,
+            q.upper_strength,
+            q.delay,
+            q.limit,
+            *n,
+            *m,
         )
     }
 }
@@ -287,6 +349,28 @@ unsafe extern "C" {
         second: u64,
     ) -> PointResult;
 
+    #[cfg(feature = "instants")]
+    fn judge_at(
+        r: i64,
+        h: i64,
+        c: i64,
+        v: i64,
+        vi: i64,
+        p: i64,
+        k: i64,
+        e: i64,
+        sides: i64,
+        sense: i64,
+        target: i64,
+        upper_target: i64,
+        strength: i64,
+        upper_strength: i64,
+        delay: i64,
+        limit: i64,
+        n: u64,
+        m: u64,
+    ) -> InstantResult;
+
     #[cfg(feature = "flights")]
     fn judge_flight(
         r: i64,
@@ -334,6 +418,12 @@ pub fn point(q: &Question, second: u64) -> PointResult {
     asked_at(screen_point, q, second)
 }
 
+/// What the proved judge says of an instant.
+#[cfg(feature = "instants")]
+pub fn instant(case: &InstantCase) -> InstantResult {
+    named(judge_at, case)
+}
+
 /// What the proved judge says of a flight.
 #[cfg(feature = "flights")]
 pub fn flight(case: &FlightCase) -> FlightResult {
@@ -357,6 +447,7 @@ pub struct Loaded {
     plain: OfNumbers<JudgeResult>,
     drawing: OfNumbers<DrawingResult>,
     point: OfSecond,
+    instant: OfInstant,
     flight: OfFlight,
     sheet_bytes: SheetBytes,
 }
@@ -376,15 +467,18 @@ impl Loaded {
             let plain = dlsym(library, c"judge_plain".as_ptr());
             let drawing = dlsym(library, c"screen_drawing".as_ptr());
             let point = dlsym(library, c"screen_point".as_ptr());
+            let instant = dlsym(library, c"judge_at".as_ptr());
             let flight = dlsym(library, c"judge_flight".as_ptr());
             let sheet_bytes = dlsym(library, c"answer_sheet_bytes".as_ptr());
-            if [plain, drawing, point, flight, sheet_bytes].contains(&std::ptr::null_mut()) {
+            let found = [plain, drawing, point, instant, flight, sheet_bytes];
+            if found.contains(&std::ptr::null_mut()) {
                 return None;
             }
             Some(Loaded {
                 plain: std::mem::transmute::<*mut c_void, OfNumbers<JudgeResult>>(plain),
                 drawing: std::mem::transmute::<*mut c_void, OfNumbers<DrawingResult>>(drawing),
                 point: std::mem::transmute::<*mut c_void, OfSecond>(point),
+                instant: std::mem::transmute::<*mut c_void, OfInstant>(instant),
                 flight: std::mem::transmute::<*mut c_void, OfFlight>(flight),
                 sheet_bytes: std::mem::transmute::<*mut c_void, SheetBytes>(sheet_bytes),
             })
@@ -401,6 +495,10 @@ impl Loaded {
 
     pub fn point(&self, q: &Question, second: u64) -> PointResult {
         asked_at(self.point, q, second)
+    }
+
+    pub fn instant(&self, case: &InstantCase) -> InstantResult {
+        named(self.instant, case)
     }
 
     pub fn flight(&self, case: &FlightCase) -> FlightResult {
@@ -518,6 +616,22 @@ impl JudgeResult {
     pub fn is_clear(&self) -> bool {
         self.kind == 65
     }
+
+    /// Whether the lower side is clear, and the upper; one-sided the lower one alone.
+    pub fn clear_sides(&self) -> [bool; 2] {
+        [1, 2].map(|side| self.is_clear() && self.number & side == side)
+    }
+
+    /// The times shown as fractions, of the lower side and of the upper.
+    pub fn shown(&self) -> [Option<(u64, u64)>; 2] {
+        let time = |seconds, remainder, divisor: u64| {
+            (divisor > 0).then(|| (seconds * divisor + remainder, divisor))
+        };
+        [
+            time(self.lower_seconds, self.lower_remainder, self.lower_divisor),
+            time(self.upper_seconds, self.upper_remainder, self.upper_divisor),
+        ]
+    }
 }
 
 impl SheetResult {
@@ -611,6 +725,52 @@ impl PointResult {
     /// Its numbers in order, a float as its bit pattern.
     pub fn numbers(&self) -> [u64; 3] {
         [self.refusal, self.time.to_bits(), self.height.to_bits()]
+    }
+}
+
+impl InstantResult {
+    /// The result that stands for an answer.
+    pub fn of(answer: &InstantAnswer) -> InstantResult {
+        let side = |conflict| if conflict { 2 } else { 1 };
+        let numbers = match *answer {
+            Err(number) => [u64::from(number), 0, 0, 0, 0],
+            Ok(Judged::OutOfReach) => [0; 5],
+            Ok(Judged::At(Standing {
+                in_window,
+                lower,
+                upper,
+            })) => [
+                0,
+                1,
+                u64::from(in_window),
+                side(lower),
+                upper.map_or(0, side),
+            ],
+        };
+        let [refusal, in_reach, in_window, lower, upper] = numbers;
+        InstantResult {
+            refusal,
+            in_reach,
+            in_window,
+            lower,
+            upper,
+        }
+    }
+
+    /// Its numbers in order.
+    pub fn numbers(&self) -> [u64; 5] {
+        [
+            self.refusal,
+            self.in_reach,
+            self.in_window,
+            self.lower,
+            self.upper,
+        ]
+    }
+
+    /// Whether each side has a conflict time there.
+    pub fn conflicts(&self) -> [bool; 2] {
+        [self.lower == 2, self.upper == 2]
     }
 }
 

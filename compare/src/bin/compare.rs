@@ -1,9 +1,9 @@
 //! compare [COUNT] [SEED]: holds the proved judge against the independent implementation on COUNT
-//! plain questions (10 million), their drawings with twelve seconds each, a tenth as many flights and a
-//! hundredth as many sheets, and on the worked questions, flights and sheets; then the program that
-//! JUDGE_PROGRAM names, on its standard input and output. The status is 0 only if no answer differs and
-//! every required class was met. Drawings want the feature `screen`, flights the feature `flights`,
-//! sheets the feature `sheets`.
+//! plain questions (10 million), their drawings with twelve seconds each, eight instants of each, a tenth as
+//! many flights and a hundredth as many sheets, and on the worked questions, instants, flights and sheets;
+//! then the program that JUDGE_PROGRAM names, on its standard input and output. The status is 0 only if no
+//! answer differs and every required class was met. Drawings want the feature `screen`, instants the feature
+//! `instants`, flights the feature `flights`, sheets the feature `sheets`.
 
 use compare::check::{self, Tally, argument};
 #[cfg(feature = "sheets")]
@@ -13,6 +13,8 @@ use compare::ffi::{self, JudgeResult};
 use compare::flight::{self, FlightCase};
 use compare::generate::{self, Random};
 use compare::independent::{Accepted, NAMES, Question};
+#[cfg(feature = "instants")]
+use compare::instant::{self, InstantCase, Known, case_at};
 #[cfg(feature = "flights")]
 use compare::pilots;
 use compare::program;
@@ -21,6 +23,8 @@ use compare::screen;
 use compare::worked;
 #[cfg(feature = "flights")]
 use compare::worked_flights;
+#[cfg(feature = "instants")]
+use compare::worked_instants;
 use std::path::Path;
 use std::process::ExitCode;
 use std::time::Instant;
@@ -90,6 +94,75 @@ fn drawings(tally: &mut Tally, count: u64, seed: u64, began: Instant) {
 #[cfg(not(feature = "screen"))]
 fn drawings(_: &mut Tally, _: u64, _: u64, _: Instant) {
     println!("no drawing was compared");
+}
+
+/// What is said of an instant; and that the judge's own answers keep what is proved of them.
+#[cfg(feature = "instants")]
+fn instant(tally: &mut Tally, name: impl Fn() -> String, known: &Known, case: &InstantCase) {
+    let wanted = ffi::InstantResult::of(&tally.instant(known, case));
+    let found = ffi::instant(case);
+    let InstantCase { question, n, m } = case;
+    if found != wanted {
+        tally.differ(|| {
+            let name = name();
+            format!("{name} at {n}/{m}: {question}\n  wanted {wanted:?}\n  found  {found:?}\n")
+        });
+    }
+    let verdict = ffi::judge(question);
+    if instant::breaks_theorem(&verdict, (*n, *m), &found) {
+        tally.differ(|| {
+            let name = name();
+            format!("{name} at {n}/{m}: {question}\n  {verdict:?}, but {found:?}\n")
+        });
+    }
+}
+
+/// Instants of a question, and the times that the judge itself shows of it.
+#[cfg(feature = "instants")]
+fn instants_of(
+    tally: &mut Tally,
+    name: impl Fn() -> String,
+    q: &Question,
+    at: impl FnOnce(&Known) -> Vec<(u64, u64)>,
+) {
+    let known = Known::of(q);
+    tally.shown(&known);
+    let shown = ffi::judge(q).shown();
+    for at in shown.into_iter().flatten().chain(at(&known)) {
+        instant(tally, &name, &known, &case_at(q, at));
+    }
+}
+
+#[cfg(feature = "instants")]
+fn instants(tally: &mut Tally, count: u64, seed: u64, began: Instant) {
+    for group in worked_instants::groups() {
+        for (case, wanted) in &group.cases {
+            if case.answer() != *wanted {
+                tally.differ(|| format!("{}: {case:?}\n  by hand {wanted:?}\n", group.name));
+            }
+            let known = Known::of(&case.question);
+            instant(tally, || group.name.to_string(), &known, case);
+        }
+    }
+    for case in worked::groups().into_iter().flat_map(|group| group.cases) {
+        if let Ok(q) = case.free() {
+            instants_of(tally, || case.name.clone(), &q, instant::edges);
+        }
+    }
+    let mut random = Random::new(!seed);
+    for i in 0..count {
+        let q = generate::question(seed, i);
+        let name = || format!("question {i} of seed {seed}");
+        instants_of(tally, name, &q, |known| {
+            instant::instants(known, &mut random).to_vec()
+        });
+        progress("questions' instants", i + 1, count, tally, began);
+    }
+}
+
+#[cfg(not(feature = "instants"))]
+fn instants(_: &mut Tally, _: u64, _: u64, _: Instant) {
+    println!("no instant was compared");
 }
 
 /// What is said of a flight; and that the judge's own answers keep what is proved of them.
@@ -209,6 +282,7 @@ fn main() -> ExitCode {
         progress("questions", i + 1, count, &tally, began);
     }
     drawings(&mut tally, count, seed, began);
+    instants(&mut tally, count, seed, began);
     flights(&mut tally, count.div_ceil(10), seed, began);
     sheets(&mut tally, count.div_ceil(100), seed, began);
     match std::env::var_os("JUDGE_PROGRAM") {

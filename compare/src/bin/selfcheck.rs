@@ -1,9 +1,10 @@
 //! selfcheck [COUNT] [SEED]: holds the independent decisions against each other, without the proved
-//! judge, on COUNT plain questions (1 million), a tenth as many flights and a hundredth as many sheets,
-//! and on document 01's examples.
+//! judge, on COUNT plain questions (1 million) with eight instants each, a tenth as many flights and a
+//! hundredth as many sheets, and on document 01's examples.
 
 use compare::check::{self, Tally, argument};
 use compare::generate::{self, Random};
+use compare::instant::{self, Known, case_at};
 use compare::pilots;
 use std::process::ExitCode;
 
@@ -16,7 +17,13 @@ fn main() -> ExitCode {
     println!("{number} examples: M1 to M15, worked sheets, the codes by Table 1");
     let mut random = Random::new(seed);
     for i in 0..count {
-        tally.question(&generate::question(seed, i), &mut random);
+        let q = generate::question(seed, i);
+        tally.question(&q, &mut random);
+        let known = Known::of(&q);
+        tally.shown(&known);
+        for at in instant::instants(&known, &mut random) {
+            let _ = tally.instant(&known, &case_at(&q, at));
+        }
     }
     for i in 0..count.div_ceil(10) {
         let _ = tally.flight(&pilots::flight(seed, i), &mut random);

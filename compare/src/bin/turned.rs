@@ -2,16 +2,19 @@
 //! sources is turned in a copy of its own (< and <=, > and >=, == and !=; of a range with its last
 //! number, and of a call of `limits::within`, either end becomes strict), the copy is built by rustc
 //! as a dynamic library, and held against the independent implementation on COUNT plain questions (1
-//! million) and, where these find nothing, the drawings of a tenth of them, a tenth as many flights and
-//! a hundredth as many sheets, up to the first difference. The status is 0 only if the copy with nothing turned agrees and
-//! just those that EQUIVALENT names are not found.
+//! million) and, where these find nothing, the drawings of a tenth of them, a tenth as many flights,
+//! a hundredth as many sheets and the instants of a tenth of the questions, up to the first difference. The status is 0 only
+//! if the copy with nothing turned agrees and just those that EQUIVALENT names are not found.
 //!
 //! turned --against LIBRARY COUNT SEED: one library; writes what is found, in a line.
 
 use compare::check::{Tally, argument};
-use compare::ffi::{DrawingResult, FlightResult, JudgeResult, Loaded, PointResult, SheetResult};
+use compare::ffi::{
+    DrawingResult, FlightResult, InstantResult, JudgeResult, Loaded, PointResult, SheetResult,
+};
 use compare::generate::{self, Random};
 use compare::independent::{self, Question};
+use compare::instant::{self, Known, case_at};
 use compare::pilots;
 use compare::rattle::{self, Comparison, Module};
 use compare::screen;
@@ -40,11 +43,6 @@ const EQUIVALENT: &[Equivalent] = &[
         function: "short_gcd",
         turned: "while y >= 1 {",
         reason: "a division by 1 leaves 0, and 1 as the divisor",
-    },
-    Equivalent {
-        function: "common_divisor",
-        turned: "_ if b != 0 => a,",
-        reason: "no time of an accepted question has a divisor of more than 32 bits",
     },
     Equivalent {
         function: "positive_difference",
@@ -88,7 +86,7 @@ const EQUIVALENT: &[Equivalent] = &[
     },
 ];
 
-const PLACES: [&str; 4] = ["question", "drawing", "flight", "sheet"];
+const PLACES: [&str; 5] = ["question", "drawing", "flight", "sheet", "instant"];
 
 // What the handlers tell: the place, and the number of the case.
 static PLACE: AtomicUsize = AtomicUsize::new(0);
@@ -179,6 +177,25 @@ fn flown(judge: &Loaded, count: u64, seed: u64) {
     }
 }
 
+/// Holds what is said of instants of a question against the independent answers.
+fn named(judge: &Loaded, q: &Question, random: &mut Random) {
+    let known = Known::of(q);
+    for at in instant::instants(&known, random) {
+        let case = case_at(q, at);
+        let wanted = InstantResult::of(&instant::answer(&known, &case));
+        let found = judge.instant(&case);
+        if [found.refusal, found.in_reach] != [wanted.refusal, wanted.in_reach] {
+            report("refused, in reach or not");
+        }
+        if found.in_window != wanted.in_window {
+            report("in the window or not");
+        }
+        if found != wanted {
+            report("a conflict time or not");
+        }
+    }
+}
+
 /// Holds one library against the independent implementation.
 fn against(library: &str, count: u64, seed: u64) -> ExitCode {
     let Some(judge) = Loaded::open(library) else {
@@ -222,6 +239,12 @@ fn against(library: &str, count: u64, seed: u64) -> ExitCode {
         if area != expected.after {
             report("another byte of the area");
         }
+    }
+    begin_place(4);
+    let mut random = Random::new(!seed);
+    for i in 0..count.div_ceil(10) {
+        begin(i);
+        named(&judge, &generate::question(seed, i), &mut random);
     }
     println!("none");
     ExitCode::SUCCESS
@@ -280,7 +303,7 @@ fn tried(
 #[derive(Default)]
 struct Summary {
     turned: u64,
-    /// Found by questions, drawings, flights and sheets, and the latest case of each.
+    /// Found by questions, drawings, flights, sheets and instants, and the latest case of each.
     found: [u64; PLACES.len()],
     latest: [u64; PLACES.len()],
     longest: f64,
@@ -382,7 +405,7 @@ fn main() -> ExitCode {
     };
     let tenth = count.div_ceil(10);
     println!(
-        "\n{} turned; at most {count} questions, {tenth} drawings, {tenth} flights and {} sheets of seed {seed} each",
+        "\n{} turned; at most {count} questions, {tenth} drawings, {tenth} flights, {} sheets and the instants of {tenth} questions of seed {seed} each",
         summary.turned,
         count.div_ceil(100)
     );

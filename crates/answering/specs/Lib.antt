@@ -1,2 +1,3 @@
 pub mod States
 pub mod Replies
+pub mod InstantReplies

@@ -2,3 +2,4 @@ pub mod PlainNumbers
 pub mod Flat
 pub mod Screen
 pub mod Flight
+pub mod Instants

@@ -11,11 +11,14 @@ ghost use Rattle.screen.specs.Drawings.{content, screen_drawing};
 ghost use Rattle.screen.specs.Points.{screen_point};
 ghost use Rattle.binding.specs.Flat.{with_times, flat_verdict, flat_answer, flat_outcome};
 ghost use Rattle.binding.specs.Flight.{flat_entry, flat_flight};
+ghost use Rattle.binding.specs.Instants.{side_number, flat_instant};
+ghost use Rattle.named_instant.specs.InstantAnswers.{instant_answer};
 ghost use Rattle.binding.specs.Screen.{no_piece, flat_piece, flat_content, flat_point};
 
 use candidate::{Flown, OneSidedAdvice};
-use instant::Time;
+use instant::{Instant, Time};
 use judge::{judge, sides_number};
+use named_instant::InstantAnswer;
 use question::{Encounter, Question, Refusal, Settings};
 use screen::{Drawing, DrawnPiece, Piece, ScreenPoint};
 use sheet::answer_sheet;
@@ -370,4 +373,59 @@ pub fn judge_flight(
     ensures { result ≡ flat_flight (flight_answer encounter settings advice flight.now) }
 {
     FlightResult::from(candidate::judge_flight(encounter, settings, advice, flight))
+}
+
+// Of an instant that is judged refusal 0, 1 for in reach, 1 if it is in the window, and of each side 2 if it is a conflict time there, 1 if it is none, 0 if the side is not asked;
+// of an instant out of reach zeros; of a refused question the number. What is not used is 0.
+#[repr(C)]
+#[derive(Clone, Copy, PartialEq, Eq, Default)]
+pub struct InstantResult {
+    pub refusal: u64,
+    pub in_reach: u64,
+    pub in_window: u64,
+    pub lower: u64,
+    pub upper: u64,
+}
+
+fn side_number(conflict: Option<bool>) -> u64
+    ensures { result ≡ side_number conflict }
+{
+    match conflict {
+        None => 0,
+        Some(false) => 1,
+        Some(true) => 2,
+    }
+}
+
+impl From<Result<InstantAnswer, Refusal>> for InstantResult {
+    ghost from_gives = { λ answer flat. flat ≡ flat_instant answer };
+
+    fn from(answer: Result<InstantAnswer, Refusal>) -> InstantResult {
+        match answer {
+            Err(why) => InstantResult {
+                refusal: u64::from(why.number()),
+                ..InstantResult::default()
+            },
+            Ok(InstantAnswer::OutOfReach) => InstantResult::default(),
+            Ok(InstantAnswer::Judged(found)) => InstantResult {
+                refusal: 0,
+                in_reach: 1,
+                in_window: u64::from(found.in_window),
+                lower: side_number(Some(found.lower)),
+                upper: side_number(found.upper),
+            },
+        }
+    }
+}
+
+// Judges an instant against a question, any 64-bit values.
+pub fn judge_at(
+    encounter: Encounter,
+    settings: Settings,
+    question: Question,
+    instant: Instant,
+) -> InstantResult
+    ensures { result ≡ flat_instant (instant_answer encounter settings question instant) }
+{
+    InstantResult::from(named_instant::judge_at(encounter, settings, question, instant))
 }

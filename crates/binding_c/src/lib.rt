@@ -11,12 +11,16 @@ ghost use Rattle.screen.specs.Points.{screen_point};
 ghost use Rattle.binding.specs.PlainNumbers.{plain_encounter, plain_settings, plain_question, plain_advice};
 ghost use Rattle.binding.specs.Flat.{flat_answer, flat_outcome};
 ghost use Rattle.binding.specs.Flight.{flat_flight};
+ghost use Rattle.binding.specs.Instants.{flat_instant};
+ghost use Rattle.instant.specs.Order.{◌÷◌};
+ghost use Rattle.named_instant.specs.InstantAnswers.{instant_answer};
 ghost use Rattle.binding.specs.Screen.{flat_content, flat_point};
 
 use binding::{
-    DrawingResult, FlightResult, JudgeResult, PointResult, SheetResult, plain_advice,
-    plain_encounter, plain_question, plain_settings,
+    DrawingResult, FlightResult, InstantResult, JudgeResult, PointResult, SheetResult,
+    plain_advice, plain_encounter, plain_question, plain_settings,
 };
+use instant::Instant;
 
 // Judges sixteen plain numbers, any 64-bit values.
 #[unsafe(no_mangle)]
@@ -167,5 +171,46 @@ pub extern "C" fn judge_flight(
         plain_settings(p, k, e),
         plain_advice(sense, target, strength, delay, limit),
         flight,
+    )
+}
+
+// Judges the instant n/m against sixteen plain numbers, any 64-bit values.
+#[unsafe(no_mangle)]
+pub extern "C" fn judge_at(
+    r: i64,
+    h: i64,
+    c: i64,
+    v: i64,
+    vi: i64,
+    p: i64,
+    k: i64,
+    e: i64,
+    sides: i64,
+    sense: i64,
+    target: i64,
+    upper_target: i64,
+    strength: i64,
+    upper_strength: i64,
+    delay: i64,
+    limit: i64,
+    n: u64,
+    m: u64,
+) -> InstantResult
+    ensures { result ≡ flat_instant (instant_answer (plain_encounter r h c v vi) (plain_settings p k e) (plain_question sides sense target upper_target strength upper_strength delay limit) (n ÷ m)) }
+{
+    binding::judge_at(
+        plain_encounter(r, h, c, v, vi),
+        plain_settings(p, k, e),
+        plain_question(
+            sides,
+            sense,
+            target,
+            upper_target,
+            strength,
+            upper_strength,
+            delay,
+            limit,
+        ),
+        Instant { n, m },
     )
 }

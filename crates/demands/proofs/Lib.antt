@@ -8,3 +8,4 @@ pub mod MarkedAnswers
 pub mod ScreenRight
 pub mod ScreenExported
 pub mod FlightsRight
+pub mod InstantsRight

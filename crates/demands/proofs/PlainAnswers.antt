@@ -33,7 +33,7 @@ use Rattle.demands.specs.PlainAnswer.{JudgedAs, RightlyAnswered}
 use Rattle.question.specs.declared.refusal.Refusal.{Refusal}
 
 -- ---- conflict times spelled out
-limited : (l : Option ℕ) (n m : ℕ) → InTime l n m ↔ WithinLimit l n m
+pub limited : (l : Option ℕ) (n m : ℕ) → InTime l n m ↔ WithinLimit l n m
 limited None n m = (λ h. h, λ h. h)
 limited (Some limit) n m = (λ h. h, λ h. h)
 
@@ -42,7 +42,7 @@ vertical Lower s n m = (λ h. h, λ h. h)
 vertical Upper s n m = (λ h. h, λ h. h)
 
 module _ (side : Side) (s : SensedQuestion) where
-  spelled : (n m : ℕ) → conflict.ConflictTime side s (record { n = n; m = m }) → ConflictAt side s n m
+  pub spelled : (n m : ℕ) → conflict.ConflictTime side s (record { n = n; m = m }) → ConflictAt side s n m
   spelled n m h = record {
     rational = h.divisor;
     near = h.conflict.window.near;
@@ -50,7 +50,7 @@ module _ (side : Side) (s : SensedQuestion) where
     vertical = (vertical side s n m).0 h.conflict.vertical;
   }
 
-  unspelled : (n m : ℕ) → ConflictAt side s n m → conflict.ConflictTime side s (record { n = n; m = m })
+  pub unspelled : (n m : ℕ) → ConflictAt side s n m → conflict.ConflictTime side s (record { n = n; m = m })
   unspelled n m h = record {
     divisor = h.rational;
     conflict = record {

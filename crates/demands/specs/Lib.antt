@@ -10,3 +10,4 @@ pub mod Screen
 pub mod Unchanged
 pub mod Larger
 pub mod Flights
+pub mod Instants

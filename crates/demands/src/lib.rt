@@ -10,15 +10,18 @@ ghost use Rattle.demands.specs.Sheets.{SheetAnswered, outcome_in};
 ghost use Rattle.demands.specs.Program.{Written};
 ghost use Rattle.demands.specs.Larger.{InRange, LargerOfZero};
 ghost use Rattle.demands.specs.Flights.{RightlyFlown, ClearKeepsOut, flight_in};
+ghost use Rattle.demands.specs.Instants.{RightlyNamed, AgreesAt, OneAnswer, instant_in};
 ghost use Rattle.demands.specs.Screen.{RightlyDrawn, RightlyPlaced, content_in, point_in};
 
 use binding::{
-    DrawingResult, FlightResult, JudgeResult, PointResult, SheetResult, answer_sheet_bytes,
-    judge_plain,
+    DrawingResult, FlightResult, InstantResult, JudgeResult, PointResult, SheetResult,
+    answer_sheet_bytes, judge_plain,
 };
 use candidate::{Flown, OneSidedAdvice};
 use conflict::positive_difference;
+use instant::Instant;
 use judge::judge;
+use named_instant::{InstantAnswer, judge_at};
 use program::{Output, program_output};
 use question::{Encounter, Question, Refusal, Settings};
 use screen::{Drawing, ScreenPoint};
@@ -174,4 +177,70 @@ pub fn exported_flight_demanded(
     ensures { RightlyFlown encounter settings advice flight.now (flight_in result) }
 {
     binding::judge_flight(encounter, settings, advice, flight)
+}
+
+// The entry for an instant that a candidate names.
+#[tactic(auto, using(crate::proofs::InstantsRight::rightly))]
+pub fn instant_demanded(
+    encounter: Encounter,
+    settings: Settings,
+    question: Question,
+    instant: Instant,
+) -> Result<InstantAnswer, Refusal>
+    ensures { RightlyNamed encounter settings question instant (with_number result) }
+{
+    judge_at(encounter, settings, question, instant)
+}
+
+// The answers to a question and to an instant that is named for it.
+#[derive(Clone, Copy)]
+pub struct BothInstants {
+    pub judged: Result<Verdict, Refusal>,
+    pub named: Result<InstantAnswer, Refusal>,
+}
+
+#[tactic(auto, using(crate::proofs::InstantsRight::agrees))]
+pub fn instant_and_verdict_demanded(
+    encounter: Encounter,
+    settings: Settings,
+    question: Question,
+    instant: Instant,
+) -> BothInstants
+    ensures { AgreesAt instant result.judged result.named }
+{
+    let judged = judge(encounter, settings, question);
+    let named = judge_at(encounter, settings, question, instant);
+    BothInstants { judged, named }
+}
+
+// The answers at two instants.
+pub fn two_instants_demanded(
+    encounter: Encounter,
+    settings: Settings,
+    question: Question,
+    first: Instant,
+    second: Instant,
+) -> (
+    Result<InstantAnswer, Refusal>,
+    Result<InstantAnswer, Refusal>,
+)
+    ensures { OneAnswer first second result.0 result.1 }
+{
+    (
+        judge_at(encounter, settings, question, first),
+        judge_at(encounter, settings, question, second),
+    )
+}
+
+// The entry for C and Rust.
+#[tactic(auto, using(crate::proofs::InstantsRight::rightly_exported))]
+pub fn exported_instant_demanded(
+    encounter: Encounter,
+    settings: Settings,
+    question: Question,
+    instant: Instant,
+) -> InstantResult
+    ensures { RightlyNamed encounter settings question instant (instant_in result) }
+{
+    binding::judge_at(encounter, settings, question, instant)
 }

@@ -1,18 +1,28 @@
-// Answers question sheets in words. Each argument names a sheet's file; `-` is standard input.
-// What is said of a record is the reply that `answering::State::answer` gives it: nothing is judged here.
+// Answers question sheets in words. Each argument names a sheet's file; `-` is standard input; `--at=17 1/2` names an instant, of which the answers to the sheets
+// behind it speak too.
+// What is said of a record is what `answering::State` replies, by `answer` and `answer_at`: nothing is judged here.
 #![tactic(auto)]
 
+ghost use Rattle.std.specs.Prelude.{◌≡◌, IfOk, Some};
+ghost use Rattle.words.specs.InstantTexts.{instant_in};
+ghost use Rattle.words.specs.NamedInstants.{named};
+
 use answering::State;
+use instant::Instant;
 use question::{Encounter, Refusal};
 use reading::{each_argument, open_named, read_part, say_unread};
 use record::{CheckedSheet, MAX_SHEET, Record, next_at, record_at};
 use std::rt::Files;
-use std::{fmt, io};
+use std::{fmt, io, str};
 use verdict::Verdict;
 
+mod instant_text;
 mod phrases;
+mod standings;
 
+use instant_text::instant_in;
 use phrases::Words;
+use standings::Named;
 
 // An accepted encounter, and the number of its record.
 #[derive(Clone, Copy)]
@@ -100,16 +110,41 @@ fn print_asked(out: &impl Print, notes: Notes) -> io::Result<()> {
     )
 }
 
-// An answer with its number, the record that it answers, and what a question was asked of.
+// What holds at the instant that is named, if one is and the record is a question that is not refused.
+fn named(
+    state: State,
+    given: Record,
+    answer: Result<Verdict, Refusal>,
+    at: Option<Instant>,
+) -> Option<Named>
+    ensures { result ≡ named state given answer at }
+{
+    let instant = at?;
+    let verdict = answer.ok()?;
+    let answer = state.answer_at(given, instant)?.ok()?;
+    Some(Named {
+        instant,
+        answer,
+        verdict,
+    })
+}
+
+// An answer with its number, and what holds at the instant that is named.
 fn print_answer(
     out: &impl Print,
     number: usize,
     answer: Result<Verdict, Refusal>,
-    place: Place,
-    given: Record,
-    notes: Notes,
+    named: Option<Named>,
 ) -> io::Result<()> {
     println!(out; "answer {number}: {}", Words(answer))?;
+    match named {
+        Some(named) => println!(out; "    {named}"),
+        None => Ok(()),
+    }
+}
+
+// The record that an answer answers, and what a question was asked of.
+fn print_given(out: &impl Print, place: Place, given: Record, notes: Notes) -> io::Result<()> {
     println!(out; "    {place}, {}", Words(given))?;
     if matches!(given, Record::Coded(_, _) | Record::Free(_)) {
         print_asked(out, notes)?;
@@ -119,7 +154,11 @@ fn print_answer(
 
 // All records of a sheet, in order. By positions, which the words tell: the iterator over records knows none.
 #[tactic(auto, using(record::proofs::Scan::whole_record))]
-fn print_answers(out: &impl Print, checked: CheckedSheet) -> io::Result<()> {
+fn print_answers(
+    out: &impl Print,
+    checked: CheckedSheet,
+    instant: Option<Instant>,
+) -> io::Result<()> {
     let sheet = checked.bytes;
     let (mut at, mut records, mut answers) = (0, 0, 0);
     let mut state = State::new();
@@ -134,7 +173,8 @@ fn print_answers(out: &impl Print, checked: CheckedSheet) -> io::Result<()> {
                 record: records,
                 byte: at,
             };
-            print_answer(out, answers, answer, place, given, notes)?;
+            print_answer(out, answers, answer, named(state, given, answer, instant))?;
+            print_given(out, place, given, notes)?;
         }
         notes.update(records, given, reply);
         state = next;
@@ -169,38 +209,71 @@ fn print_refused(out: &impl Print, sheet: &[u8], why: Refusal) -> io::Result<()>
     }
 }
 
-fn print_sheet(out: &impl Print, sheet: &[u8]) -> io::Result<()> {
+fn print_sheet(out: &impl Print, sheet: &[u8], instant: Option<Instant>) -> io::Result<()> {
     match CheckedSheet::check(sheet) {
-        Ok(checked) => print_answers(out, checked),
+        Ok(checked) => print_answers(out, checked, instant),
         Err(why) => print_refused(out, sheet, why),
     }
 }
 
-fn answer_file<P: Print, R: io::Read>(out: &P, file: &mut R) -> io::Result<()> {
+fn answer_file<P: Print, R: io::Read>(
+    out: &P,
+    file: &mut R,
+    instant: Option<Instant>,
+) -> io::Result<()> {
     // One byte more than the longest sheet, so that a longer one is seen. (`program::answer_read` reads so too, but gives the answer's bytes, and words are of the sheet's.)
     let mut room = [0u8; MAX_SHEET + 1];
-    print_sheet(out, read_part(file, &mut room)?)
+    print_sheet(out, read_part(file, &mut room)?, instant)
 }
 
-fn answer_named<R: Print + Eprint + Files>(rt: &R, name: &[u8]) -> io::Result<()> {
+fn answer_named<R: Print + Eprint + Files>(
+    rt: &R,
+    name: &[u8],
+    instant: Option<Instant>,
+) -> io::Result<()> {
     match open_named(rt, name) {
         Ok(mut file) => {
             // By `write_all`, as a file's name is bytes, perhaps no text.
             rt.write_all(name)?;
             rt.print("\n")?;
-            answer_file(rt, &mut file)
+            answer_file(rt, &mut file, instant)
         }
         Err(error) => say_unread(rt, name, error),
     }
 }
 
-fn answer_argument<R: Print + Eprint + Input + Files>(rt: &R, name: &[u8]) -> io::Result<()> {
-    match name {
-        b"-" => answer_file(rt, &mut rt.reader()),
-        _ => answer_named(rt, name),
+// The instant that an argument names; says on standard error where it names none.
+fn read_instant<E: Eprint>(to: &E, text: &[u8]) -> io::Result<Instant>
+    ensures { IfOk result (λ instant. instant_in text.now ≡ Some instant) }
+{
+    match str::from_utf8(text).ok().and_then(instant_in) {
+        Some(instant) => Ok(instant),
+        None => {
+            eprintln!(to; "--at= names no instant: an instant is 17, 17.5, 35/2 or 17 1/2")?;
+            Err(io::Error::from(io::ErrorKind::InvalidInput))
+        }
+    }
+}
+
+fn answer_argument<R: Print + Eprint + Input + Files>(
+    rt: &R,
+    argument: &[u8],
+    instant: &mut Option<Instant>,
+) -> io::Result<()> {
+    if let Some(text) = argument.strip_prefix(b"--at=") {
+        *instant = Some(read_instant(rt, text)?);
+        return Ok(());
+    }
+    match argument {
+        b"-" => answer_file(rt, &mut rt.reader(), *instant),
+        _ => answer_named(rt, argument, *instant),
     }
 }
 
 fn main(rt: HostRuntime) -> io::Result<()> {
-    each_argument(&rt, &mut |name| answer_argument(&rt, name))
+    let mut instant = None;
+    each_argument(
+        &rt,
+        &mut |argument| answer_argument(&rt, argument, &mut instant),
+    )
 }

@@ -1,7 +1,7 @@
 // How times, verdicts, refusals and records are printed.
 
 ghost use Rattle.std.specs.Prelude.{Some};
-ghost use Rattle.words.specs.Texts.{encounter_text};
+ghost use Rattle.words.specs.Texts.{encounter_text, time_text};
 
 use instant::Time;
 use limits::NO_LIMIT;
@@ -16,6 +16,8 @@ pub struct Words<T>(pub T);
 
 // "24 3/8 s", or "27 s" where the remainder is 0.
 impl fmt::Display for Words<Time> {
+    ghost output = { λ words. Some (time_text words.0) };
+
     fn fmt<W: fmt::Write>(&self, f: &mut fmt::Formatter<W>) -> fmt::Result {
         let Words(
             Time {
