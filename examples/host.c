@@ -1,4 +1,4 @@
-/* A host in C: judges questions of plain numbers and instants, draws one, judges flights, and answers sheets. `compare/hosts` builds and runs it; by hand, from the repository's root:
+/* A host in C: judges questions of plain numbers and instants, draws two, judges flights, and answers sheets. `compare/hosts` builds and runs it; by hand, from the repository's root:
  *     tools/archive
  *     cc -Iinclude -o host examples/host.c target/staticlib/libbinding.a && ./host examples/whole_example.sheet
  */
@@ -46,11 +46,9 @@ static void show_piece(PieceResult piece)
            piece.kind == LIFGORUND_ARC ? "arc" : "straight", piece.square, piece.linear, piece.constant);
 }
 
-/* The question of code 12, climb to 1,500, from level flight: its drawing. */
-static void draw(void)
+static void draw(const char *name, DrawingResult drawing)
 {
-    DrawingResult drawing = screen_drawing(0, 0, 0, 0, 0, 30000, 6000, 966, LIFGORUND_ONE_SIDED, LIFGORUND_CLIMB, 1500, 0, 483, 0, 5, LIFGORUND_NO_LIMIT);
-    printf("drawing: refusal %" PRIu64 ", pieces %" PRIu64 "\n", drawing.refusal, drawing.pieces);
+    printf("%s: refusal %" PRIu64 ", pieces %" PRIu64 "\n", name, drawing.refusal, drawing.pieces);
     if (drawing.pieces > 0)
         show_piece(drawing.first);
     if (drawing.pieces > 1)
@@ -59,11 +57,27 @@ static void draw(void)
         show_piece(drawing.third);
 }
 
-/* And its point at a second. */
+/* The question of code 12, climb to 1,500, from level flight; and a two-sided one, whose upper path goes to 2,500. */
+#define CODE_12 0, 0, 0, 0, 0, 30000, 6000, 966, LIFGORUND_ONE_SIDED, LIFGORUND_CLIMB, 1500, 0, 483, 0, 5, LIFGORUND_NO_LIMIT
+#define CLIMB_BETWEEN 0, 0, 0, 0, 0, 30000, 6000, 300, LIFGORUND_TWO_SIDED, LIFGORUND_CLIMB, 0, 2500, 400, 500, 2, LIFGORUND_NO_LIMIT
+
 static void point(uint64_t second)
 {
-    PointResult answer = screen_point(0, 0, 0, 0, 0, 30000, 6000, 966, LIFGORUND_ONE_SIDED, LIFGORUND_CLIMB, 1500, 0, 483, 0, 5, LIFGORUND_NO_LIMIT, second);
+    PointResult answer = screen_point(CODE_12, second);
     printf("point: refusal %" PRIu64 ", time %.0f, height %.0f\n", answer.refusal, answer.time, answer.height);
+}
+
+static void point_above(const char *name, UpperPointResult answer)
+{
+    printf("%s: refusal %" PRIu64 ", asked %" PRIu64 ", time %.0f, height %.0f\n", name, answer.refusal, answer.asked, answer.time, answer.height);
+}
+
+/* The question that a code asks from level flight. */
+static void ask(uint64_t code)
+{
+    QuestionResult question = coded_question(code, 0, LIFGORUND_NO_LIMIT);
+    printf("code %" PRIu64 ": refusal %" PRIu64 ", sense %" PRId64 ", target %" PRId64 ", strength %" PRId64 ", delay %" PRId64 "\n", code,
+           question.refusal, question.sense, question.target, question.strength, question.delay);
 }
 
 /* M5, climb to 0 at 500: a candidate's flight against it. */
@@ -100,9 +114,15 @@ int main(int argc, char **argv)
     at("M2", 32250, 54, 2);
     at("M2", 32250, 20, 1);
     at("M2", 32250, 27, 0);
-    draw();
+    draw("drawing", screen_drawing(CODE_12));
     point(15);
     point(LIFGORUND_LAST_SECOND + 1);
+    draw("upper drawing", upper_drawing(CLIMB_BETWEEN));
+    draw("upper drawing, one-sided", upper_drawing(CODE_12));
+    point_above("upper point", upper_point(CLIMB_BETWEEN, 3));
+    point_above("upper point, one-sided", upper_point(CODE_12, 3));
+    ask(12);
+    ask(300);
     const int64_t just[] = {500, 2, 0, 5};
     const int64_t quick[] = {2000, 1, 0, 6};
     fly("M5, 500 for 2 s", just, 4);

@@ -1,4 +1,4 @@
-"""A host in Python: judges questions of plain numbers and instants, draws one, judges flights, and answers sheets. `compare/hosts` builds the shared library and runs it; by hand, from
+"""A host in Python: judges questions of plain numbers and instants, draws two, judges flights, and answers sheets. `compare/hosts` builds the shared library and runs it; by hand, from
 the repository's root:
     tools/archive
     cc -shared -o liblifgorund.so -Wl,--whole-archive target/staticlib/libbinding.a -Wl,--no-whole-archive
@@ -37,6 +37,15 @@ class PointResult(ctypes.Structure):
     _fields_ = [("refusal", ctypes.c_uint64), ("time", ctypes.c_double), ("height", ctypes.c_double)]
 
 
+class UpperPointResult(ctypes.Structure):
+    _fields_ = [("refusal", ctypes.c_uint64), ("asked", ctypes.c_uint64), ("time", ctypes.c_double), ("height", ctypes.c_double)]
+
+
+class QuestionResult(ctypes.Structure):
+    _fields_ = [("refusal", ctypes.c_uint64)] + [(name, ctypes.c_int64) for name in (
+        "sides", "sense", "target", "upper_target", "strength", "upper_strength", "delay", "limit")]
+
+
 class FlightResult(ctypes.Structure):
     _fields_ = [(name, ctypes.c_uint64) for name in ("refusal", "obeys", "inside", "second")]
 
@@ -54,6 +63,12 @@ library.screen_drawing.argtypes = [ctypes.c_int64] * 16
 library.screen_drawing.restype = DrawingResult
 library.screen_point.argtypes = [ctypes.c_int64] * 16 + [ctypes.c_uint64]
 library.screen_point.restype = PointResult
+library.upper_drawing.argtypes = [ctypes.c_int64] * 16
+library.upper_drawing.restype = DrawingResult
+library.upper_point.argtypes = [ctypes.c_int64] * 16 + [ctypes.c_uint64]
+library.upper_point.restype = UpperPointResult
+library.coded_question.argtypes = [ctypes.c_uint64, ctypes.c_int64, ctypes.c_int64]
+library.coded_question.restype = QuestionResult
 library.judge_flight.argtypes = [ctypes.c_int64] * 13 + [ctypes.POINTER(ctypes.c_int64), ctypes.c_size_t]
 library.judge_flight.restype = FlightResult
 library.answer_sheet_bytes.argtypes = [ctypes.c_char_p, ctypes.c_size_t, ctypes.c_char_p, ctypes.c_size_t]
@@ -86,13 +101,13 @@ def at(name, h, n, m):
         print(f"{name} at {n}/{m} s: refusal {answer.refusal}, in reach {answer.in_reach}")
 
 
-# The question of code 12, climb to 1,500, from level flight.
+# The question of code 12, climb to 1,500, from level flight; and a two-sided one, whose upper path goes to 2,500.
 CODE_12 = (0, 0, 0, 0, 0, 30000, 6000, 966, ONE_SIDED, CLIMB, 1500, 0, 483, 0, 5, NO_LIMIT)
+CLIMB_BETWEEN = (0, 0, 0, 0, 0, 30000, 6000, 300, TWO_SIDED, CLIMB, 0, 2500, 400, 500, 2, NO_LIMIT)
 
 
-def draw():
-    drawing = library.screen_drawing(*CODE_12)
-    print(f"drawing: refusal {drawing.refusal}, pieces {drawing.pieces}")
+def draw(name, drawing):
+    print(f"{name}: refusal {drawing.refusal}, pieces {drawing.pieces}")
     for piece in drawing.piece[:drawing.pieces]:
         kind = "arc" if piece.kind == ARC else "straight"
         print(f"  from {piece.seconds} {piece.remainder}/{piece.divisor} s, {kind}: {piece.square:.0f} {piece.linear:.0f} {piece.constant:.0f}")
@@ -101,6 +116,16 @@ def draw():
 def point(second):
     answer = library.screen_point(*CODE_12, second)
     print(f"point: refusal {answer.refusal}, time {answer.time:.0f}, height {answer.height:.0f}")
+
+
+def point_above(name, answer):
+    print(f"{name}: refusal {answer.refusal}, asked {answer.asked}, time {answer.time:.0f}, height {answer.height:.0f}")
+
+
+def ask(code):
+    """The question that a code asks from level flight."""
+    question = library.coded_question(code, 0, NO_LIMIT)
+    print(f"code {code}: refusal {question.refusal}, sense {question.sense}, target {question.target}, strength {question.strength}, delay {question.delay}")
 
 
 def fly(name, flight):
@@ -127,9 +152,15 @@ at("M1", 32249, 27, 1)
 at("M2", 32250, 54, 2)
 at("M2", 32250, 20, 1)
 at("M2", 32250, 27, 0)
-draw()
+draw("drawing", library.screen_drawing(*CODE_12))
 point(15)
 point(LAST_SECOND + 1)
+draw("upper drawing", library.upper_drawing(*CLIMB_BETWEEN))
+draw("upper drawing, one-sided", library.upper_drawing(*CODE_12))
+point_above("upper point", library.upper_point(*CLIMB_BETWEEN, 3))
+point_above("upper point, one-sided", library.upper_point(*CODE_12, 3))
+ask(12)
+ask(300)
 fly("M5, 500 for 2 s", [500, 2, 0, 5])
 fly("M5, 2,000 for 1 s", [2000, 1, 0, 6])
 fly("three numbers", [500, 2, 0])

@@ -1,4 +1,4 @@
-//! A host in Rust: judges questions of plain numbers and instants, draws one, judges flights, and answers sheets. `compare/hosts` builds and runs it; by hand, from the repository's root:
+//! A host in Rust: judges questions of plain numbers and instants, draws two, judges flights, and answers sheets. `compare/hosts` builds and runs it; by hand, from the repository's root:
 //!     tools/archive
 //!     rustc -L native=target/staticlib -o host examples/host.rs && ./host examples/whole_example.sheet
 //! include/lifgorund.h says what each argument and each field is.
@@ -64,6 +64,29 @@ struct PointResult {
 }
 
 #[repr(C)]
+struct UpperPointResult {
+    refusal: u64,
+    asked: u64,
+    time: f64,
+    height: f64,
+}
+
+// It prints five of them.
+#[allow(dead_code)]
+#[repr(C)]
+struct QuestionResult {
+    refusal: u64,
+    sides: i64,
+    sense: i64,
+    target: i64,
+    upper_target: i64,
+    strength: i64,
+    upper_strength: i64,
+    delay: i64,
+    limit: i64,
+}
+
+#[repr(C)]
 struct FlightResult {
     refusal: u64,
     obeys: u64,
@@ -103,6 +126,20 @@ unsafe extern "C" {
         r: i64, h: i64, c: i64, v: i64, vi: i64, p: i64, k: i64, e: i64, sides: i64, sense: i64,
         target: i64, upper_target: i64, strength: i64, upper_strength: i64, delay: i64, limit: i64, second: u64,
     ) -> PointResult;
+
+    #[rustfmt::skip]
+    safe fn upper_drawing(
+        r: i64, h: i64, c: i64, v: i64, vi: i64, p: i64, k: i64, e: i64, sides: i64, sense: i64,
+        target: i64, upper_target: i64, strength: i64, upper_strength: i64, delay: i64, limit: i64,
+    ) -> DrawingResult;
+
+    #[rustfmt::skip]
+    safe fn upper_point(
+        r: i64, h: i64, c: i64, v: i64, vi: i64, p: i64, k: i64, e: i64, sides: i64, sense: i64,
+        target: i64, upper_target: i64, strength: i64, upper_strength: i64, delay: i64, limit: i64, second: u64,
+    ) -> UpperPointResult;
+
+    safe fn coded_question(code: u64, v: i64, limit: i64) -> QuestionResult;
 
     #[rustfmt::skip]
     fn judge_flight(
@@ -151,10 +188,8 @@ fn at(name: &str, h: i64, n: u64, m: u64) {
     }
 }
 
-/// The question of code 12, climb to 1,500, from level flight: its drawing.
-fn draw() {
-    let drawing = screen_drawing(0, 0, 0, 0, 0, 30_000, 6_000, 966, ONE_SIDED, CLIMB, 1_500, 0, 483, 0, 5, NO_LIMIT);
-    println!("drawing: refusal {}, pieces {}", drawing.refusal, drawing.pieces);
+fn draw(name: &str, drawing: DrawingResult) {
+    println!("{name}: refusal {}, pieces {}", drawing.refusal, drawing.pieces);
     for piece in [drawing.first, drawing.second, drawing.third].iter().take(drawing.pieces as usize) {
         let kind = if piece.kind == ARC { "arc" } else { "straight" };
         let time = format!("{} {}/{} s", piece.seconds, piece.remainder, piece.divisor);
@@ -162,10 +197,31 @@ fn draw() {
     }
 }
 
-/// And its point at a second.
-fn point(second: u64) {
-    let answer = screen_point(0, 0, 0, 0, 0, 30_000, 6_000, 966, ONE_SIDED, CLIMB, 1_500, 0, 483, 0, 5, NO_LIMIT, second);
-    println!("point: refusal {}, time {}, height {}", answer.refusal, answer.time, answer.height);
+/// The question of code 12, climb to 1,500, from level flight: its drawing and two points.
+fn draw_code_12() {
+    draw("drawing", screen_drawing(0, 0, 0, 0, 0, 30_000, 6_000, 966, ONE_SIDED, CLIMB, 1_500, 0, 483, 0, 5, NO_LIMIT));
+    for second in [15, LAST_SECOND + 1] {
+        let answer = screen_point(0, 0, 0, 0, 0, 30_000, 6_000, 966, ONE_SIDED, CLIMB, 1_500, 0, 483, 0, 5, NO_LIMIT, second);
+        println!("point: refusal {}, time {}, height {}", answer.refusal, answer.time, answer.height);
+    }
+}
+
+fn point_above(name: &str, answer: UpperPointResult) {
+    println!("{name}: refusal {}, asked {}, time {}, height {}", answer.refusal, answer.asked, answer.time, answer.height);
+}
+
+/// The upper path: that of a two-sided question goes to 2,500, and code 12, which is one-sided, has none.
+fn draw_above() {
+    draw("upper drawing", upper_drawing(0, 0, 0, 0, 0, 30_000, 6_000, 300, TWO_SIDED, CLIMB, 0, 2_500, 400, 500, 2, NO_LIMIT));
+    draw("upper drawing, one-sided", upper_drawing(0, 0, 0, 0, 0, 30_000, 6_000, 966, ONE_SIDED, CLIMB, 1_500, 0, 483, 0, 5, NO_LIMIT));
+    point_above("upper point", upper_point(0, 0, 0, 0, 0, 30_000, 6_000, 300, TWO_SIDED, CLIMB, 0, 2_500, 400, 500, 2, NO_LIMIT, 3));
+    point_above("upper point, one-sided", upper_point(0, 0, 0, 0, 0, 30_000, 6_000, 966, ONE_SIDED, CLIMB, 1_500, 0, 483, 0, 5, NO_LIMIT, 3));
+}
+
+/// The question that a code asks from level flight.
+fn ask(code: u64) {
+    let question = coded_question(code, 0, NO_LIMIT);
+    println!("code {code}: refusal {}, sense {}, target {}, strength {}, delay {}", question.refusal, question.sense, question.target, question.strength, question.delay);
 }
 
 /// M5, climb to 0 at 500: a candidate's flight against it.
@@ -197,9 +253,10 @@ fn main() -> std::io::Result<()> {
     at("M2", 32_250, 54, 2);
     at("M2", 32_250, 20, 1);
     at("M2", 32_250, 27, 0);
-    draw();
-    point(15);
-    point(LAST_SECOND + 1);
+    draw_code_12();
+    draw_above();
+    ask(12);
+    ask(300);
     fly("M5, 500 for 2 s", &[500, 2, 0, 5]);
     fly("M5, 2,000 for 1 s", &[2_000, 1, 0, 6]);
     fly("three numbers", &[500, 2, 0]);

@@ -160,9 +160,10 @@ enum {
     LIFGORUND_LAST_SECOND = 600
 };
 
-/* A piece of the lower path: from its time on, to the next piece's or without an end, the ownship's sensed height (with the sense descend
- * positive downwards), measured from a level that starts at the ownship and moves with the intruder's vertical speed, is at t seconds
- *     (square * t * t + linear * t + constant) / (2 * strength) grains.
+/* A piece of a path, the lower or the upper: from its time on, to the next piece's or without an end, the ownship's sensed height (with the sense
+ * descend positive downwards), measured from a level that starts at the ownship and moves with the intruder's vertical speed, is at t seconds
+ *     (square * t * t + linear * t + constant) / (2 * strength) grains,
+ * strength being that of the path: of the upper path the upper strength.
  * The coefficients are whole numbers below 2^53. A piece is a straight exactly if square is 0. Where there is no piece all is 0. */
 typedef struct PieceResult {
     uint64_t kind; /* LIFGORUND_STRAIGHT, LIFGORUND_ARC or LIFGORUND_NO_PIECE */
@@ -174,10 +175,10 @@ typedef struct PieceResult {
     double constant;
 } PieceResult;
 
-/* What screen_drawing answers. */
+/* What screen_drawing and upper_drawing answer. */
 typedef struct DrawingResult {
     uint64_t refusal; /* LIFGORUND_ACCEPTED, or that of judge_plain */
-    uint64_t pieces;  /* one to three; of a refused question 0 */
+    uint64_t pieces;  /* one to three; of a refused question 0, and so of the upper path of a one-sided question */
     PieceResult first; /* from 0 */
     PieceResult second;
     PieceResult third;
@@ -185,6 +186,11 @@ typedef struct DrawingResult {
 
 /* Draws the lower path of a question of plain numbers, those of judge_plain, in pieces. Every argument may have any value. It writes no memory. */
 DrawingResult screen_drawing(
+    int64_t r, int64_t h, int64_t c, int64_t v, int64_t vi, int64_t p, int64_t k, int64_t e, int64_t sides, int64_t sense,
+    int64_t target, int64_t upper_target, int64_t strength, int64_t upper_strength, int64_t delay, int64_t limit);
+
+/* Draws the upper path, which only a two-sided question has. Every argument may have any value. It writes no memory. */
+DrawingResult upper_drawing(
     int64_t r, int64_t h, int64_t c, int64_t v, int64_t vi, int64_t p, int64_t k, int64_t e, int64_t sides, int64_t sense,
     int64_t target, int64_t upper_target, int64_t strength, int64_t upper_strength, int64_t delay, int64_t limit);
 
@@ -198,6 +204,20 @@ typedef struct PointResult {
 /* The point of the lower path at a whole second. A second above LIFGORUND_LAST_SECOND gets 6, after the refusals of the question. Every argument may
  * have any value. It writes no memory. */
 PointResult screen_point(
+    int64_t r, int64_t h, int64_t c, int64_t v, int64_t vi, int64_t p, int64_t k, int64_t e, int64_t sides, int64_t sense,
+    int64_t target, int64_t upper_target, int64_t strength, int64_t upper_strength, int64_t delay, int64_t limit, uint64_t second);
+
+/* What upper_point answers: a point of the upper path. What is not used is 0. */
+typedef struct UpperPointResult {
+    uint64_t refusal; /* LIFGORUND_ACCEPTED, or that of judge_plain */
+    uint64_t asked;   /* 1 if there is a point; 0 if the question is one-sided, or refused */
+    double time;      /* the second */
+    double height;    /* that of the drawing, times 2 * upper_strength, and exact: a whole number */
+} UpperPointResult;
+
+/* The point of the upper path at a whole second, as screen_point gives it of the lower: a second above LIFGORUND_LAST_SECOND gets 6 here too, also of a
+ * one-sided question. Every argument may have any value. It writes no memory. */
+UpperPointResult upper_point(
     int64_t r, int64_t h, int64_t c, int64_t v, int64_t vi, int64_t p, int64_t k, int64_t e, int64_t sides, int64_t sense,
     int64_t target, int64_t upper_target, int64_t strength, int64_t upper_strength, int64_t delay, int64_t limit, uint64_t second);
 
@@ -216,6 +236,26 @@ typedef struct FlightResult {
 FlightResult judge_flight(
     int64_t r, int64_t h, int64_t c, int64_t v, int64_t vi, int64_t p, int64_t k, int64_t e, int64_t sense, int64_t target, int64_t strength, int64_t delay,
     int64_t limit, const int64_t *flight, size_t flight_length);
+
+/* What coded_question answers: the fields of a question, as judge_plain takes them. Of a refused code all of them are 0. */
+typedef struct QuestionResult {
+    uint64_t refusal; /* LIFGORUND_ACCEPTED, or one of 8, 9, 17 */
+    int64_t sides;
+    int64_t sense;
+    int64_t target;
+    int64_t upper_target;
+    int64_t strength;
+    int64_t upper_strength;
+    int64_t delay;
+    int64_t limit;
+} QuestionResult;
+
+/* The question that an advisory's code asks an ownship of vertical speed v: one-sided, with the target of the catalogue, and the strength and the delay of the
+ * reaction table. Speed and limit may have any value: they are handed on, and judge_plain tests them with the question. It writes no memory. */
+QuestionResult coded_question(
+    uint64_t code, /* 1 to 18; every other number gets 8 */
+    int64_t v,
+    int64_t limit);
 
 /* What answer_sheet_bytes answers. */
 typedef struct SheetResult {

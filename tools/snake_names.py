@@ -7,6 +7,7 @@ and the file at hand doesn't import it from a library. Comments keep their words
 import collections
 import os
 import re
+import sys
 
 TOK = re.compile(r"[^\s(){}\[\],;.:=→λ×⊎≡«»|↦⟦⟧\"`]+")
 WORDS = {"use", "module", "open", "where", "infix", "infixl", "infixr", "unfolding", "let", "in", "elim", "pub", "abbrev", "unfoldable", "data", "record", "ruleset", "mod", "ghost"}
@@ -132,4 +133,7 @@ def main():
 
 
 if __name__ == "__main__":
+    # It takes no words, and writes: so one that asks for help must not start it.
+    if len(sys.argv) > 1:
+        sys.exit(__doc__)
     main()

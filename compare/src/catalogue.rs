@@ -55,8 +55,8 @@ impl Advice {
     /// "Maintain" is told where the target is the current v. It is not told against the way that the
     /// ownship of speed v is going: document 02's 17. Level flight goes neither way.
     pub fn against(&self, v: i64) -> bool {
-        let way = if self.sense == 1 { v } else { -v };
-        self.target == Target::Current && way < 0
+        let other_way = if self.sense == 1 { v < 0 } else { 0 < v };
+        self.target == Target::Current && other_way
     }
 }
 
@@ -72,4 +72,21 @@ pub fn look_up(code: u8) -> Result<Advice, u8> {
     } else {
         Err(8)
     }
+}
+
+/// What a code asks: its advice, and the target as a number; or the refusal, 8, 9 or 17.
+pub type Coded = Result<(Advice, i64), u8>;
+
+/// What a code, any number, asks an ownship of speed v.
+pub fn asked(code: u64, v: i64) -> Coded {
+    // A byte holds no greater code, and no table lists one.
+    let advice = look_up(code.try_into().map_err(|_| 8)?)?;
+    if advice.against(v) {
+        return Err(17);
+    }
+    let target = match advice.target {
+        Target::Speed(speed) => speed,
+        Target::Current => v,
+    };
+    Ok((advice, target))
 }

@@ -1,6 +1,7 @@
 //! What a run checks of each question, instant, flight and sheet without the proved judge, and what it counts.
 
 use crate::catalogue::CATALOGUE;
+use crate::catalogue::{self, Coded};
 use crate::edges::{self, EDGES, POSITIONS};
 use crate::exact::Ratio;
 use crate::examples::Table1;
@@ -12,7 +13,10 @@ use crate::independent::{
 };
 use crate::instant::{self, INSTANT_CLASSES, InstantAnswer, InstantCase, Known};
 use crate::motion;
-use crate::screen::{self, DRAWING_CLASSES, Drawing, POINT_CLASSES, Point};
+use crate::screen::{
+    self, DRAWING_CLASSES, Drawing, POINT_CLASSES, Point, UPPER_DRAWING_CLASSES,
+    UPPER_POINT_CLASSES, UpperDrawing, UpperPoint,
+};
 use crate::sheet;
 use std::fmt::Write;
 
@@ -26,6 +30,9 @@ const MOMENTS: [(Moment, &str); 5] = [
 
 /// The refusals of a sheet's records.
 const RECORD_REFUSALS: [u8; 13] = [1, 2, 3, 4, 5, 6, 7, 8, 9, 14, 15, 16, 17];
+
+/// What a code may be answered by: a question, or a refusal.
+const CODE_OUTCOMES: [u8; 4] = [0, 8, 9, 17];
 
 /// Counts of one run, and its first difference.
 pub struct Tally {
@@ -44,6 +51,10 @@ pub struct Tally {
     drawing_classes: [u64; DRAWING_CLASSES.len()],
     points: u64,
     point_classes: [u64; POINT_CLASSES.len()],
+    upper_drawing_classes: [u64; UPPER_DRAWING_CLASSES.len()],
+    upper_point_classes: [u64; UPPER_POINT_CLASSES.len()],
+    codes: u64,
+    code_outcomes: [u64; CODE_OUTCOMES.len()],
     flights: u64,
     flight_classes: [u64; FLIGHT_CLASSES.len()],
     instants: u64,
@@ -89,6 +100,10 @@ impl Default for Tally {
             drawing_classes: [0; DRAWING_CLASSES.len()],
             points: 0,
             point_classes: [0; POINT_CLASSES.len()],
+            upper_drawing_classes: [0; UPPER_DRAWING_CLASSES.len()],
+            upper_point_classes: [0; UPPER_POINT_CLASSES.len()],
+            codes: 0,
+            code_outcomes: [0; CODE_OUTCOMES.len()],
             flights: 0,
             flight_classes: [0; FLIGHT_CLASSES.len()],
             instants: 0,
@@ -338,6 +353,39 @@ impl Tally {
         point
     }
 
+    /// Counts the drawing of a question's upper path, and gives it.
+    pub fn upper_drawing(&mut self, q: &Question) -> UpperDrawing {
+        let drawing = screen::upper_drawing(q);
+        for (n, (_, holds)) in self
+            .upper_drawing_classes
+            .iter_mut()
+            .zip(UPPER_DRAWING_CLASSES)
+        {
+            *n += u64::from(holds(q, &drawing));
+        }
+        drawing
+    }
+
+    /// Counts a point of a question's upper path, and gives it.
+    pub fn upper_point(&mut self, q: &Question, second: u64) -> UpperPoint {
+        let point = screen::upper_point(q, second);
+        for (n, (_, holds)) in self.upper_point_classes.iter_mut().zip(UPPER_POINT_CLASSES) {
+            *n += u64::from(holds(q, second, &point));
+        }
+        point
+    }
+
+    /// Counts what a code asks, and gives it.
+    pub fn coded(&mut self, code: u64, v: i64) -> Coded {
+        let coded = catalogue::asked(code, v);
+        self.codes += 1;
+        let outcome = coded.as_ref().err().copied().unwrap_or(0);
+        for (n, number) in self.code_outcomes.iter_mut().zip(CODE_OUTCOMES) {
+            *n += u64::from(number == outcome);
+        }
+        coded
+    }
+
     /// Counts a flight, holds its answer against what is said of each instant, and gives it.
     pub fn flight(&mut self, case: &FlightCase, random: &mut Random) -> FlightAnswer {
         if let Some(fault) = flight::unsound(case, random) {
@@ -500,6 +548,17 @@ impl Tally {
         for (n, (text, _)) in self.point_classes.iter().zip(POINT_CLASSES) {
             out.line(*n, text);
         }
+        out.title("the upper path");
+        for (n, (text, _)) in self.upper_drawing_classes.iter().zip(UPPER_DRAWING_CLASSES) {
+            out.line(*n, text);
+        }
+        for (n, (text, _)) in self.upper_point_classes.iter().zip(UPPER_POINT_CLASSES) {
+            out.line(*n, text);
+        }
+        out.title(&format!("codes: {}", self.codes));
+        for (n, number) in self.code_outcomes.iter().zip(CODE_OUTCOMES) {
+            out.line(*n, &format!("code answered by {number}"));
+        }
     }
 
     fn report_instants(&self, out: &mut Report) {
@@ -550,21 +609,25 @@ impl Tally {
         }
     }
 
-    /// Prints the report and gives the exit status: 0 if there is no difference and every required
-    /// class was met.
+    /// Prints the report and gives the exit status.
     pub fn finish(&self) -> u8 {
-        let (text, missing) = self.report();
-        print!("{text}");
-        if !missing.is_empty() {
-            println!("\nnot met ({}):", missing.len());
-            for name in &missing {
-                println!("  {name}");
-            }
-        }
+        print!("{}", self.report().0);
         if let Some(first) = &self.first_difference {
             println!("\nfirst difference:\n{first}");
         }
         println!("\n{} differences", self.differences);
+        self.verdict()
+    }
+
+    /// The exit status: 0 if there is no difference and every required class was met. Names those that were not.
+    pub fn verdict(&self) -> u8 {
+        let (_, missing) = self.report();
+        if !missing.is_empty() {
+            eprintln!("\nnot met ({}):", missing.len());
+            for name in &missing {
+                eprintln!("  {name}");
+            }
+        }
         u8::from(self.differences > 0 || !missing.is_empty())
     }
 }

@@ -3,10 +3,11 @@
 //!
 //! Nothing checks these declarations against the library. Every function takes any values.
 
+use crate::catalogue::Coded;
 use crate::flight::{FlightAnswer, FlightCase, Flown};
 use crate::independent::{Answer, Question, Time};
 use crate::instant::{InstantAnswer, InstantCase, Judged, Standing};
-use crate::screen::{Drawing, Piece, Point};
+use crate::screen::{Drawing, Piece, Point, UpperDrawing, UpperPoint};
 use std::ffi::{CString, c_char, c_int, c_void};
 
 /// The answer to plain numbers. Numbers that the kind does not use are 0.
@@ -67,6 +68,32 @@ pub struct PointResult {
     pub height: f64,
 }
 
+/// A point of the upper path: refusal 0, 1 for asked, its time and height; one-sided zeros; or the
+/// refusal and zeros.
+#[repr(C)]
+#[derive(Clone, Copy, Debug)]
+pub struct UpperPointResult {
+    pub refusal: u64,
+    pub asked: u64,
+    pub time: f64,
+    pub height: f64,
+}
+
+/// The question that a code asks: refusal 0 and its fields, or the refusal and zeros.
+#[repr(C)]
+#[derive(Clone, Copy, Debug, Default, PartialEq, Eq)]
+pub struct QuestionResult {
+    pub refusal: u64,
+    pub sides: i64,
+    pub sense: i64,
+    pub target: i64,
+    pub upper_target: i64,
+    pub strength: i64,
+    pub upper_strength: i64,
+    pub delay: i64,
+    pub limit: i64,
+}
+
 /// What is said of a flight: refusal 0, whether it obeys, whether it is inside the puck (1 or 0), and
 /// the second; or the refusal and zeros. The second is 0 where it is never inside.
 #[repr(C)]
@@ -110,8 +137,8 @@ type OfNumbers<R> = unsafe extern "C" fn(
     i64,
 ) -> R;
 
-/// `screen_point`: the sixteen plain numbers and a second.
-type OfSecond = unsafe extern "C" fn(
+/// `screen_point` and `upper_point`: the sixteen plain numbers and a second.
+type OfSecond<R> = unsafe extern "C" fn(
     i64,
     i64,
     i64,
@@ -129,7 +156,10 @@ type OfSecond = unsafe extern "C" fn(
     i64,
     i64,
     u64,
-) -> PointResult;
+) -> R;
+
+/// `coded_question`: a code, a vertical speed and a limit.
+type OfCode = unsafe extern "C" fn(u64, i64, i64) -> QuestionResult;
 
 /// `judge_at`: the sixteen plain numbers, and n and m.
 type OfInstant = unsafe extern "C" fn(
@@ -201,7 +231,7 @@ fn asked<R>(of_numbers: OfNumbers<R>, q: &Question) -> R {
     }
 }
 
-fn asked_at(of_second: OfSecond, q: &Question, second: u64) -> PointResult {
+fn asked_at<R>(of_second: OfSecond<R>, q: &Question, second: u64) -> R {
     // SAFETY: seventeen numbers by value; every such function takes any and writes no memory.
     unsafe {
         of_second(
@@ -224,6 +254,11 @@ fn asked_at(of_second: OfSecond, q: &Question, second: u64) -> PointResult {
             second,
         )
     }
+}
+
+fn coded(of_code: OfCode, code: u64, v: i64, limit: i64) -> QuestionResult {
+    // SAFETY: three numbers by value; every such function takes any and writes no memory.
+    unsafe { of_code(code, v, limit) }
 }
 
 fn named(of_instant: OfInstant, case: &InstantCase) -> InstantResult {
@@ -349,6 +384,50 @@ unsafe extern "C" {
         second: u64,
     ) -> PointResult;
 
+    #[cfg(feature = "screen")]
+    fn upper_drawing(
+        r: i64,
+        h: i64,
+        c: i64,
+        v: i64,
+        vi: i64,
+        p: i64,
+        k: i64,
+        e: i64,
+        sides: i64,
+        sense: i64,
+        target: i64,
+        upper_target: i64,
+        strength: i64,
+        upper_strength: i64,
+        delay: i64,
+        limit: i64,
+    ) -> DrawingResult;
+
+    #[cfg(feature = "screen")]
+    fn upper_point(
+        r: i64,
+        h: i64,
+        c: i64,
+        v: i64,
+        vi: i64,
+        p: i64,
+        k: i64,
+        e: i64,
+        sides: i64,
+        sense: i64,
+        target: i64,
+        upper_target: i64,
+        strength: i64,
+        upper_strength: i64,
+        delay: i64,
+        limit: i64,
+        second: u64,
+    ) -> UpperPointResult;
+
+    #[cfg(feature = "screen")]
+    fn coded_question(code: u64, v: i64, limit: i64) -> QuestionResult;
+
     #[cfg(feature = "instants")]
     fn judge_at(
         r: i64,
@@ -418,6 +497,24 @@ pub fn point(q: &Question, second: u64) -> PointResult {
     asked_at(screen_point, q, second)
 }
 
+/// The proved drawing of the upper path of plain numbers.
+#[cfg(feature = "screen")]
+pub fn drawing_above(q: &Question) -> DrawingResult {
+    asked(upper_drawing, q)
+}
+
+/// The proved point of the upper path of plain numbers at a second.
+#[cfg(feature = "screen")]
+pub fn point_above(q: &Question, second: u64) -> UpperPointResult {
+    asked_at(upper_point, q, second)
+}
+
+/// The proved question of a code.
+#[cfg(feature = "screen")]
+pub fn question_of(code: u64, v: i64, limit: i64) -> QuestionResult {
+    coded(coded_question, code, v, limit)
+}
+
 /// What the proved judge says of an instant.
 #[cfg(feature = "instants")]
 pub fn instant(case: &InstantCase) -> InstantResult {
@@ -446,7 +543,10 @@ unsafe extern "C" {
 pub struct Loaded {
     plain: OfNumbers<JudgeResult>,
     drawing: OfNumbers<DrawingResult>,
-    point: OfSecond,
+    point: OfSecond<PointResult>,
+    upper_drawing: OfNumbers<DrawingResult>,
+    upper_point: OfSecond<UpperPointResult>,
+    coded: OfCode,
     instant: OfInstant,
     flight: OfFlight,
     sheet_bytes: SheetBytes,
@@ -467,17 +567,37 @@ impl Loaded {
             let plain = dlsym(library, c"judge_plain".as_ptr());
             let drawing = dlsym(library, c"screen_drawing".as_ptr());
             let point = dlsym(library, c"screen_point".as_ptr());
+            let upper_drawing = dlsym(library, c"upper_drawing".as_ptr());
+            let upper_point = dlsym(library, c"upper_point".as_ptr());
+            let coded = dlsym(library, c"coded_question".as_ptr());
             let instant = dlsym(library, c"judge_at".as_ptr());
             let flight = dlsym(library, c"judge_flight".as_ptr());
             let sheet_bytes = dlsym(library, c"answer_sheet_bytes".as_ptr());
-            let found = [plain, drawing, point, instant, flight, sheet_bytes];
+            let found = [
+                plain,
+                drawing,
+                point,
+                upper_drawing,
+                upper_point,
+                coded,
+                instant,
+                flight,
+                sheet_bytes,
+            ];
             if found.contains(&std::ptr::null_mut()) {
                 return None;
             }
             Some(Loaded {
                 plain: std::mem::transmute::<*mut c_void, OfNumbers<JudgeResult>>(plain),
                 drawing: std::mem::transmute::<*mut c_void, OfNumbers<DrawingResult>>(drawing),
-                point: std::mem::transmute::<*mut c_void, OfSecond>(point),
+                point: std::mem::transmute::<*mut c_void, OfSecond<PointResult>>(point),
+                upper_drawing: std::mem::transmute::<*mut c_void, OfNumbers<DrawingResult>>(
+                    upper_drawing,
+                ),
+                upper_point: std::mem::transmute::<*mut c_void, OfSecond<UpperPointResult>>(
+                    upper_point,
+                ),
+                coded: std::mem::transmute::<*mut c_void, OfCode>(coded),
                 instant: std::mem::transmute::<*mut c_void, OfInstant>(instant),
                 flight: std::mem::transmute::<*mut c_void, OfFlight>(flight),
                 sheet_bytes: std::mem::transmute::<*mut c_void, SheetBytes>(sheet_bytes),
@@ -495,6 +615,18 @@ impl Loaded {
 
     pub fn point(&self, q: &Question, second: u64) -> PointResult {
         asked_at(self.point, q, second)
+    }
+
+    pub fn upper_drawing(&self, q: &Question) -> DrawingResult {
+        asked(self.upper_drawing, q)
+    }
+
+    pub fn upper_point(&self, q: &Question, second: u64) -> UpperPointResult {
+        asked_at(self.upper_point, q, second)
+    }
+
+    pub fn question_of(&self, code: u64, v: i64, limit: i64) -> QuestionResult {
+        coded(self.coded, code, v, limit)
     }
 
     pub fn instant(&self, case: &InstantCase) -> InstantResult {
@@ -613,6 +745,20 @@ impl JudgeResult {
 }
 
 impl JudgeResult {
+    /// Its numbers in order.
+    pub fn numbers(&self) -> [u64; 8] {
+        [
+            self.kind,
+            self.number,
+            self.lower_seconds,
+            self.lower_remainder,
+            self.lower_divisor,
+            self.upper_seconds,
+            self.upper_remainder,
+            self.upper_divisor,
+        ]
+    }
+
     pub fn is_clear(&self) -> bool {
         self.kind == 65
     }
@@ -680,17 +826,28 @@ impl PieceResult {
 impl DrawingResult {
     /// The result that stands for a drawing.
     pub fn of(drawing: &Drawing) -> DrawingResult {
-        let pieces = drawing.as_deref().unwrap_or_default();
+        match drawing {
+            Ok(pieces) => DrawingResult::of_pieces(0, pieces),
+            Err(number) => DrawingResult::of_pieces(u64::from(*number), &[]),
+        }
+    }
+
+    /// The same of the upper path.
+    pub fn of_upper(drawing: &UpperDrawing) -> DrawingResult {
+        match drawing {
+            Ok(pieces) => DrawingResult::of_pieces(0, pieces.as_deref().unwrap_or_default()),
+            Err(number) => DrawingResult::of_pieces(u64::from(*number), &[]),
+        }
+    }
+
+    fn of_pieces(refusal: u64, pieces: &[Piece]) -> DrawingResult {
         let place = |i: usize| {
             pieces
                 .get(i)
                 .map_or(PieceResult::default(), PieceResult::of)
         };
         DrawingResult {
-            refusal: drawing
-                .as_ref()
-                .err()
-                .map_or(0, |number| u64::from(*number)),
+            refusal,
             pieces: pieces.len() as u64,
             first: place(0),
             second: place(1),
@@ -725,6 +882,71 @@ impl PointResult {
     /// Its numbers in order, a float as its bit pattern.
     pub fn numbers(&self) -> [u64; 3] {
         [self.refusal, self.time.to_bits(), self.height.to_bits()]
+    }
+}
+
+impl UpperPointResult {
+    /// The result that stands for a point of the upper path.
+    pub fn of(point: &UpperPoint) -> UpperPointResult {
+        let (refusal, asked, (time, height)) = match *point {
+            Ok(Some(point)) => (0, 1, point),
+            Ok(None) => (0, 0, (0, 0)),
+            Err(number) => (u64::from(number), 0, (0, 0)),
+        };
+        UpperPointResult {
+            refusal,
+            asked,
+            time: time as f64,
+            height: height as f64,
+        }
+    }
+
+    /// Its numbers in order, a float as its bit pattern.
+    pub fn numbers(&self) -> [u64; 4] {
+        [
+            self.refusal,
+            self.asked,
+            self.time.to_bits(),
+            self.height.to_bits(),
+        ]
+    }
+}
+
+impl QuestionResult {
+    /// The result that stands for what a code asks.
+    pub fn of(coded: &Coded, limit: i64) -> QuestionResult {
+        match *coded {
+            Err(number) => QuestionResult {
+                refusal: u64::from(number),
+                ..QuestionResult::default()
+            },
+            Ok((advice, target)) => QuestionResult {
+                sides: 1,
+                sense: advice.sense,
+                target,
+                strength: advice.strength,
+                delay: advice.delay,
+                limit,
+                ..QuestionResult::default()
+            },
+        }
+    }
+
+    /// Its numbers in order.
+    pub fn numbers(&self) -> [u64; 9] {
+        let fields = [
+            self.sides,
+            self.sense,
+            self.target,
+            self.upper_target,
+            self.strength,
+            self.upper_strength,
+            self.delay,
+            self.limit,
+        ];
+        let mut numbers = [self.refusal; 9];
+        numbers[1..].copy_from_slice(&fields.map(|n| n as u64));
+        numbers
     }
 }
 
@@ -812,6 +1034,12 @@ impl FlightResult {
 
 impl PartialEq for DrawingResult {
     fn eq(&self, other: &DrawingResult) -> bool {
+        self.numbers() == other.numbers()
+    }
+}
+
+impl PartialEq for UpperPointResult {
+    fn eq(&self, other: &UpperPointResult) -> bool {
         self.numbers() == other.numbers()
     }
 }

@@ -56,7 +56,7 @@ fn in_reach(t: Ratio) -> bool {
 }
 
 /// Within the puck's radius, edge included, and no later than the limit.
-fn in_window(q: &Question, t: Ratio) -> bool {
+pub fn in_window(q: &Question, t: Ratio) -> bool {
     let ahead = wide(q.r) - i128::from(q.c) * t;
     let near = ahead <= wide(q.p) && -ahead <= wide(q.p);
     near && (q.limit == NO_LIMIT || t <= wide(q.limit))

@@ -64,3 +64,11 @@ pub fn upper_height(q: &Question, t: Ratio) -> Ratio {
     let target = at_delay.max(sensed(q, q.upper_target));
     during + gaining(at_delay, target, q.upper_strength, t - d)
 }
+
+/// The instant from which the upper path has the target's speed. A speed above the target is kept.
+pub fn upper_target_reached(q: &Question) -> Ratio {
+    let d = Ratio::whole(i128::from(q.delay));
+    let at_delay = sensed(q, q.v) + i128::from(q.e) * d;
+    let target = at_delay.max(sensed(q, q.upper_target));
+    d + (target - at_delay).over(i128::from(q.upper_strength))
+}

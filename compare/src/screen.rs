@@ -1,4 +1,4 @@
-//! The lower path on the screen, written from document 02, "The path on the screen": its pieces, and
+//! The paths on the screen, written from document 02, "The path on the screen": the pieces of each, and
 //! the point of a whole second.
 //!
 //! Heights are areas under the sensed speed, by `motion`. A piece's coefficients are found from three
@@ -11,7 +11,14 @@ use crate::motion;
 /// The last second that is drawn.
 pub const LAST_SECOND: u64 = 600;
 
-/// A stretch of path: 2 × a × height = x₂ t² + x₁ t + x₀ from a time on.
+/// A path of a question: the lower, or the upper of a two-sided one.
+#[derive(Clone, Copy, PartialEq, Eq)]
+enum Path {
+    Lower,
+    Upper,
+}
+
+/// A stretch of path: 2 × a × height (of the upper path 2 × b × height) = x₂ t² + x₁ t + x₀ from a time on.
 #[derive(Clone, Copy, Debug, PartialEq, Eq)]
 pub struct Piece {
     pub from: Time,
@@ -31,9 +38,18 @@ pub type Drawing = Result<Vec<Piece>, u8>;
 /// The time and the height, or the refusal.
 pub type Point = Result<(i64, i64), u8>;
 
-/// The height of the lower path, times 2 × a.
-fn scaled(q: &Question, t: Ratio) -> Ratio {
-    (2 * i128::from(q.strength) * motion::lower_height(q, t)).lowest()
+/// The same of the upper path, which a one-sided question does not have.
+pub type UpperDrawing = Result<Option<Vec<Piece>>, u8>;
+
+pub type UpperPoint = Result<Option<(i64, i64)>, u8>;
+
+/// The height of a path, times twice its strength.
+fn scaled(path: Path, q: &Question, t: Ratio) -> Ratio {
+    let (strength, height) = match path {
+        Path::Lower => (q.strength, motion::lower_height(q, t)),
+        Path::Upper => (q.upper_strength, motion::upper_height(q, t)),
+    };
+    (2 * i128::from(strength) * height).lowest()
 }
 
 fn quotient(x: Ratio, y: Ratio) -> Ratio {
@@ -49,8 +65,8 @@ fn whole(x: Ratio) -> i64 {
 }
 
 /// The coefficients of the parabola through the path's heights at three times.
-fn through(q: &Question, [t0, t1, t2]: [Ratio; 3]) -> [i64; 3] {
-    let [y0, y1, y2] = [t0, t1, t2].map(|t| scaled(q, t));
+fn through(path: Path, q: &Question, [t0, t1, t2]: [Ratio; 3]) -> [i64; 3] {
+    let [y0, y1, y2] = [t0, t1, t2].map(|t| scaled(path, q, t));
     let rise = quotient(y1 - y0, t1 - t0);
     let x2 = quotient(quotient(y2 - y0, t2 - t0) - rise, t2 - t1);
     let x1 = (rise - x2 * (t0 + t1)).lowest();
@@ -59,12 +75,12 @@ fn through(q: &Question, [t0, t1, t2]: [Ratio; 3]) -> [i64; 3] {
 }
 
 /// "Pieces meet where the paths change rule; pieces of no length are left out."
-pub fn drawing(q: &Question) -> Drawing {
-    if let Some(number) = refusal(q) {
-        return Err(number);
-    }
+fn pieces_of(path: Path, q: &Question) -> Vec<Piece> {
     let d = Ratio::whole(i128::from(q.delay));
-    let reached = motion::target_reached(q).lowest();
+    let reached = match path {
+        Path::Lower => motion::target_reached(q).lowest(),
+        Path::Upper => motion::upper_target_reached(q).lowest(),
+    };
     let after = |seconds| (reached + Ratio::whole(seconds)).lowest();
     let stretches = [
         (Ratio::ZERO, d),
@@ -76,30 +92,70 @@ pub fn drawing(q: &Question) -> Drawing {
         let middle = (from + to).over(2).lowest();
         Piece {
             from: Time::of(from),
-            coefficients: through(q, [from, middle, to]),
+            coefficients: through(path, q, [from, middle, to]),
         }
     };
     let long = |(from, to): &(Ratio, Ratio)| from < to;
-    Ok(stretches.into_iter().filter(long).map(piece).collect())
+    stretches.into_iter().filter(long).map(piece).collect()
+}
+
+pub fn drawing(q: &Question) -> Drawing {
+    match refusal(q) {
+        Some(number) => Err(number),
+        None => Ok(pieces_of(Path::Lower, q)),
+    }
+}
+
+pub fn upper_drawing(q: &Question) -> UpperDrawing {
+    match refusal(q) {
+        Some(number) => Err(number),
+        None => Ok((q.sides == 2).then(|| pieces_of(Path::Upper, q))),
+    }
 }
 
 /// "A second above 600 gets 6; the other refusals are those of the entry for plain numbers."
+fn point_refusal(q: &Question, second: u64) -> Option<u8> {
+    refusal(q).or((second > LAST_SECOND).then_some(6))
+}
+
+fn point_of(path: Path, q: &Question, second: u64) -> (i64, i64) {
+    let t = Ratio::whole(i128::from(second));
+    (second as i64, whole(scaled(path, q, t)))
+}
+
 pub fn point(q: &Question, second: u64) -> Point {
-    if let Some(number) = refusal(q) {
-        return Err(number);
+    match point_refusal(q, second) {
+        Some(number) => Err(number),
+        None => Ok(point_of(Path::Lower, q, second)),
     }
-    if second > LAST_SECOND {
-        return Err(6);
+}
+
+pub fn upper_point(q: &Question, second: u64) -> UpperPoint {
+    match point_refusal(q, second) {
+        Some(number) => Err(number),
+        None => Ok((q.sides == 2).then(|| point_of(Path::Upper, q, second))),
     }
-    let t = i128::from(second);
-    Ok((second as i64, whole(scaled(q, Ratio::whole(t)))))
 }
 
 /// The seconds to draw of a question: the ends, around d and around where the target is reached, and
 /// those that are refused; where the question is refused, any.
 pub fn seconds(q: &Question, any: u64) -> [u64; 12] {
+    let reached = || motion::target_reached(q).floor() as u64;
+    seconds_around(q, reached, any)
+}
+
+/// The same of the upper path; of a one-sided question as of the lower.
+pub fn upper_seconds(q: &Question, any: u64) -> [u64; 12] {
+    if q.sides != 2 {
+        return seconds(q, any);
+    }
+    let reached = || motion::upper_target_reached(q).floor() as u64;
+    seconds_around(q, reached, any)
+}
+
+fn seconds_around(q: &Question, reached: impl FnOnce() -> u64, any: u64) -> [u64; 12] {
     let (d, reached) = match refusal(q) {
-        None => (q.delay as u64, motion::target_reached(q).floor() as u64),
+        None => (q.delay as u64, reached()),
         Some(_) => (0, 0),
     };
     [
@@ -224,6 +280,86 @@ pub const POINT_CLASSES: [PointClass; 20] = [
     }),
 ];
 
+/// A class of drawings of the upper path that a run must meet, and one of its points.
+pub type UpperDrawingClass = (&'static str, fn(&Question, &UpperDrawing) -> bool);
+
+pub type UpperPointClass = (&'static str, fn(&Question, u64, &UpperPoint) -> bool);
+
+fn upper_pieces(drawing: &UpperDrawing) -> &[Piece] {
+    match drawing {
+        Ok(Some(pieces)) => pieces,
+        _ => &[],
+    }
+}
+
+/// w × (upper target − v): how much the upper path is slower than its target at the start.
+fn slower(q: &Question) -> i64 {
+    if q.sense == 1 {
+        q.upper_target - q.v
+    } else {
+        q.v - q.upper_target
+    }
+}
+
+pub const UPPER_DRAWING_CLASSES: [UpperDrawingClass; 12] = [
+    ("upper: one-sided, none", |_, x| *x == Ok(None)),
+    ("upper: one piece", |_, x| upper_pieces(x).len() == 1),
+    ("upper: two pieces, d = 0", |q, x| {
+        upper_pieces(x).len() == 2 && q.delay == 0
+    }),
+    ("upper: two pieces, d > 0", |q, x| {
+        upper_pieces(x).len() == 2 && q.delay > 0
+    }),
+    ("upper: three pieces", |_, x| upper_pieces(x).len() == 3),
+    (
+        "upper: the delay bends towards the advice",
+        |q, x| matches!(upper_pieces(x), [first, ..] if q.delay > 0 && first.coefficients[0] > 0),
+    ),
+    ("upper: the speed reached is above the target", |q, x| {
+        !upper_pieces(x).is_empty() && slower(q) < q.e * q.delay
+    }),
+    ("upper: the speed reached is the target", |q, x| {
+        !upper_pieces(x).is_empty() && slower(q) == q.e * q.delay
+    }),
+    ("upper: strengths differ", |q, x| {
+        !upper_pieces(x).is_empty() && q.upper_strength > q.strength
+    }),
+    ("upper: descend", |q, x| {
+        !upper_pieces(x).is_empty() && q.sense == 0
+    }),
+    ("upper: pieces meet between seconds", |_, x| {
+        upper_pieces(x).iter().any(|piece| piece.from.divisor > 1)
+    }),
+    ("upper: refused", |_, x| x.is_err()),
+];
+
+pub const UPPER_POINT_CLASSES: [UpperPointClass; 8] = [
+    ("upper: no point, one-sided", |_, _, x| *x == Ok(None)),
+    ("upper: a second of the delay", |q, t, x| {
+        matches!(x, Ok(Some(_))) && t < q.delay as u64
+    }),
+    ("upper: second d + 1", |q, t, x| {
+        matches!(x, Ok(Some(_))) && t == q.delay as u64 + 1
+    }),
+    ("upper: second 600", |_, t, x| {
+        matches!(x, Ok(Some(_))) && t == LAST_SECOND
+    }),
+    (
+        "upper: height below 0",
+        |_, _, x| matches!(x, Ok(Some((_, height))) if *height < 0),
+    ),
+    (
+        "upper: height above 0",
+        |_, _, x| matches!(x, Ok(Some((_, height))) if *height > 0),
+    ),
+    ("upper: second 601, one-sided", |q, t, x| {
+        refusal(q).is_none() && q.sides == 1 && t == LAST_SECOND + 1 && *x == Err(6)
+    }),
+    ("upper: second 601, two-sided", |q, t, x| {
+        refusal(q).is_none() && q.sides == 2 && t == LAST_SECOND + 1 && *x == Err(6)
+    }),
+];
+
 #[cfg(test)]
 mod tests {
     use super::*;
@@ -264,6 +400,49 @@ mod tests {
             Ok((15, 233_289 * 225 - 6_998_670 * 15 + 17_496_675))
         );
         assert_eq!(point(&q, 601), Err(6));
+    }
+
+    /// A climb between 0 and 2,500, the upper path with 500 after 2 s, from v 0, with e 300.
+    #[test]
+    fn upper_drawing_worked_by_hand() {
+        let q = Question {
+            p: 30_000,
+            k: 6_000,
+            e: 300,
+            sides: 2,
+            sense: 1,
+            upper_target: 2_500,
+            strength: 400,
+            upper_strength: 500,
+            delay: 2,
+            limit: 65_535,
+            ..Question::default()
+        };
+        let piece = |seconds, remainder, divisor, coefficients| Piece {
+            from: Time {
+                seconds,
+                remainder,
+                divisor,
+            },
+            coefficients,
+        };
+        let wanted = vec![
+            piece(0, 0, 1, [150_000, 0, 0]),
+            piece(2, 0, 1, [250_000, -400_000, 400_000]),
+            piece(5, 4, 5, [0, 2_500_000, -8_010_000]),
+        ];
+        assert_eq!(upper_drawing(&q), Ok(Some(wanted)));
+        assert_eq!(upper_point(&q, 3), Ok(Some((3, 1_450_000))));
+        // The speed reached, 600, is kept where it is above the target.
+        let kept = Question {
+            upper_target: 100,
+            ..q
+        };
+        let wanted = vec![
+            piece(0, 0, 1, [150_000, 0, 0]),
+            piece(2, 0, 1, [0, 600_000, -600_000]),
+        ];
+        assert_eq!(upper_drawing(&kept), Ok(Some(wanted)));
     }
 
     /// At each whole second the piece that holds gives the point's height.

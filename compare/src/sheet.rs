@@ -1,7 +1,7 @@
 //! The reader of question sheets, written from document 01 alone.
 
 use crate::catalogue::{self, Target};
-use crate::independent::{self, Accepted, Answer, Question};
+use crate::independent::{self, Answer, Question, judge};
 
 pub const LONGEST_SHEET: usize = 8_192;
 
@@ -21,7 +21,7 @@ const AT_FIRST: Settings = Settings {
 };
 
 /// One record, its numbers read.
-enum Record {
+pub enum Record {
     Encounter([i64; 5]),
     Puck(i64, i64),
     DelayAcceleration(i64),
@@ -91,17 +91,42 @@ fn decode(kind: u8, body: &[u8]) -> Record {
     }
 }
 
-/// The records of a sheet, or its refusal: 10, 11 or 12.
-fn records(sheet: &[u8]) -> Result<Vec<Record>, u8> {
+/// Where a record stands: its number, from 1, and the position of its kind's byte, from 0.
+#[derive(Clone, Copy, Debug, PartialEq, Eq)]
+pub struct Place {
+    pub record: usize,
+    pub byte: usize,
+}
+
+/// Why a whole sheet is refused: 10, 11 or 12; and the record that is unknown or cut short.
+#[derive(Clone, Copy, Debug, PartialEq, Eq)]
+pub struct Fault {
+    pub number: u8,
+    pub place: Option<Place>,
+}
+
+/// The records of a sheet, or what is wrong with it.
+fn records(sheet: &[u8]) -> Result<Vec<(Place, Record)>, Fault> {
     if sheet.len() > LONGEST_SHEET {
-        return Err(10);
+        return Err(Fault {
+            number: 10,
+            place: None,
+        });
     }
     let mut found = Vec::new();
     let mut rest = sheet;
     while let Some((&kind, after)) = rest.split_first() {
-        let length = body_length(kind).ok_or(11)?;
-        let (body, next) = after.split_at_checked(length).ok_or(12)?;
-        found.push(decode(kind, body));
+        let place = Place {
+            record: found.len() + 1,
+            byte: sheet.len() - rest.len(),
+        };
+        let refused = |number| Fault {
+            number,
+            place: Some(place),
+        };
+        let length = body_length(kind).ok_or(refused(11))?;
+        let (body, next) = after.split_at_checked(length).ok_or(refused(12))?;
+        found.push((place, decode(kind, body)));
         rest = next;
     }
     Ok(found)
@@ -128,14 +153,6 @@ fn under(settings: &Settings) -> Option<Question> {
     })
 }
 
-fn judge(q: &Question) -> Answer {
-    // Encounter, puck and e were tested when they were set.
-    if let Some(number) = independent::question_refusal(q) {
-        return Answer::Refused(number);
-    }
-    independent::judge_accepted(&Accepted::of(q).expect("settings are within limits"))
-}
-
 /// The free question that a code stands for, with the encounter, the settings and the limit of `q`; or
 /// the refusal of the code.
 pub fn coded_question(q: &Question, code: u8) -> Result<Question, u8> {
@@ -158,20 +175,13 @@ pub fn coded_question(q: &Question, code: u8) -> Result<Question, u8> {
     })
 }
 
-fn coded(settings: &Settings, code: u8, limit: i64) -> Answer {
-    let Some(q) = under(settings) else {
-        return Answer::Refused(7);
-    };
-    match coded_question(&Question { limit, ..q }, code) {
-        Err(number) => Answer::Refused(number),
-        Ok(question) => judge(&question),
-    }
+fn coded(settings: &Settings, code: u8, limit: i64) -> Result<Question, u8> {
+    let q = under(settings).ok_or(7)?;
+    coded_question(&Question { limit, ..q }, code)
 }
 
-fn free(settings: &Settings, fields: &[i64; 8]) -> Answer {
-    let Some(q) = under(settings) else {
-        return Answer::Refused(7);
-    };
+fn free(settings: &Settings, fields: &[i64; 8]) -> Result<Question, u8> {
+    let q = under(settings).ok_or(7)?;
     let [
         sides,
         sense,
@@ -182,7 +192,7 @@ fn free(settings: &Settings, fields: &[i64; 8]) -> Answer {
         delay,
         limit,
     ] = *fields;
-    judge(&Question {
+    Ok(Question {
         sides,
         sense,
         target,
@@ -195,33 +205,59 @@ fn free(settings: &Settings, fields: &[i64; 8]) -> Answer {
     })
 }
 
-/// What one record answers; an accepted setting changes the settings and answers nothing.
-fn respond(settings: &mut Settings, record: &Record) -> Option<Answer> {
+/// A question that is accepted. Encounter, puck and e were tested when they were set.
+fn accepted(q: Question) -> Result<Question, u8> {
+    independent::question_refusal(&q).map_or(Ok(q), Err)
+}
+
+/// What comes of one record: the plain question that it asks, or its refusal; nothing of an accepted setting, which
+/// changes the settings.
+fn take(settings: &mut Settings, record: &Record) -> Option<Result<Question, u8>> {
     match record {
         Record::Encounter(fields) => {
             if !fields.iter().enumerate().all(|(i, &n)| within(i, n)) {
-                return Some(Answer::Refused(1));
+                return Some(Err(1));
             }
             settings.encounter = Some(*fields);
             None
         }
         Record::Puck(p, k) => {
             if !within(5, *p) || !within(6, *k) {
-                return Some(Answer::Refused(2));
+                return Some(Err(2));
             }
             settings.puck = (*p, *k);
             None
         }
         Record::DelayAcceleration(e) => {
             if !within(7, *e) {
-                return Some(Answer::Refused(3));
+                return Some(Err(3));
             }
             settings.delay_acceleration = *e;
             None
         }
-        Record::Coded { code, limit } => Some(coded(settings, *code, *limit)),
-        Record::Free(fields) => Some(free(settings, fields)),
+        Record::Coded { code, limit } => Some(coded(settings, *code, *limit).and_then(accepted)),
+        Record::Free(fields) => Some(free(settings, fields).and_then(accepted)),
     }
+}
+
+/// A record with its place, and what comes of it.
+pub struct Step {
+    pub place: Place,
+    pub record: Record,
+    pub asked: Option<Result<Question, u8>>,
+}
+
+/// The records of a sheet in order, or what is wrong with it.
+pub fn steps(sheet: &[u8]) -> Result<Vec<Step>, Fault> {
+    let mut settings = AT_FIRST;
+    Ok(records(sheet)?
+        .into_iter()
+        .map(|(place, record)| Step {
+            place,
+            asked: take(&mut settings, &record),
+            record,
+        })
+        .collect())
 }
 
 /// One answer, with the code for a coded question.
@@ -232,17 +268,16 @@ pub struct Response {
 
 /// The answers of a sheet in order, or its refusal, 10 to 12.
 pub fn responses(sheet: &[u8]) -> Result<Vec<Response>, u8> {
-    let mut settings = AT_FIRST;
-    Ok(records(sheet)?
-        .iter()
-        .filter_map(|record| {
-            let code = match record {
-                Record::Coded { code, .. } => Some(*code),
-                _ => None,
-            };
-            respond(&mut settings, record).map(|answer| Response { answer, code })
-        })
-        .collect())
+    let steps = steps(sheet).map_err(|fault| fault.number)?;
+    let response = |step: &Step| {
+        let code = match step.record {
+            Record::Coded { code, .. } => Some(code),
+            _ => None,
+        };
+        let answer = step.asked?.map_or_else(Answer::Refused, |q| judge(&q));
+        Some(Response { answer, code })
+    };
+    Ok(steps.iter().filter_map(response).collect())
 }
 
 /// The whole answer of a sheet in bytes, or its refusal, 10 to 12.

@@ -1,9 +1,10 @@
 //! compare [COUNT] [SEED]: holds the proved judge against the independent implementation on COUNT
-//! plain questions (10 million), their drawings with twelve seconds each, eight instants of each, a tenth as
-//! many flights and a hundredth as many sheets, and on the worked questions, instants, flights and sheets;
-//! then the program that JUDGE_PROGRAM names, on its standard input and output. The status is 0 only if no
-//! answer differs and every required class was met. Drawings want the feature `screen`, instants the feature
-//! `instants`, flights the feature `flights`, sheets the feature `sheets`.
+//! plain questions (10 million), the drawings of their paths with twelve seconds each, what each code
+//! asks, eight instants of each question, a tenth as many flights and a hundredth as many sheets, and on
+//! the worked questions, instants, flights and sheets; then the program that JUDGE_PROGRAM names, on its
+//! standard input and output. The status is 0 only if no answer differs and every required class was met.
+//! Drawings want the feature `screen`, instants the feature `instants`, flights the feature `flights`,
+//! sheets the feature `sheets`.
 
 use compare::check::{self, Tally, argument};
 #[cfg(feature = "sheets")]
@@ -75,18 +76,72 @@ fn screen(tally: &mut Tally, name: impl Fn() -> String, q: &Question, any: u64) 
     }
 }
 
+/// The drawing and the points of its upper path.
+#[cfg(feature = "screen")]
+fn upper_screen(tally: &mut Tally, name: impl Fn() -> String, q: &Question, any: u64) {
+    let wanted = ffi::DrawingResult::of_upper(&tally.upper_drawing(q));
+    let found = ffi::drawing_above(q);
+    if found != wanted {
+        tally.differ(|| {
+            let name = name();
+            format!("upper drawing of {name}: {q}\n  wanted {wanted:?}\n  found  {found:?}\n")
+        });
+    }
+    for second in screen::upper_seconds(q, any) {
+        let wanted = ffi::UpperPointResult::of(&tally.upper_point(q, second));
+        let found = ffi::point_above(q, second);
+        if found != wanted {
+            tally.differ(|| {
+                let name = name();
+                format!(
+                    "{name}, above, at {second}: {q}\n  wanted {wanted:?}\n  found  {found:?}\n"
+                )
+            });
+        }
+    }
+}
+
+/// What a code asks an ownship of any speed, with any limit.
+#[cfg(feature = "screen")]
+fn code(tally: &mut Tally, code: u64, v: i64, limit: i64) {
+    let wanted = ffi::QuestionResult::of(&tally.coded(code, v), limit);
+    let found = ffi::question_of(code, v, limit);
+    if found != wanted {
+        tally.differ(|| {
+            format!("code {code}, v {v}, limit {limit}\n  wanted {wanted:?}\n  found  {found:?}\n")
+        });
+    }
+}
+
+/// Each code and its neighbours past a byte, at each sign of v and at the ends of 64 bits.
+#[cfg(feature = "screen")]
+fn codes(tally: &mut Tally) {
+    let numbers = (0..=300).chain([(1 << 32) + 12, u64::MAX, (1 << 63) + 12]);
+    for number in numbers {
+        for v in [i64::MIN, -10_001, -1, 0, 1, 10_000, i64::MAX] {
+            for limit in [i64::MIN, -1, 0, 600, 65_535, i64::MAX] {
+                code(tally, number, v, limit);
+            }
+        }
+    }
+}
+
 #[cfg(feature = "screen")]
 fn drawings(tally: &mut Tally, count: u64, seed: u64, began: Instant) {
     for case in worked::groups().into_iter().flat_map(|group| group.cases) {
         if let Ok(q) = case.free() {
             screen(tally, || case.name.clone(), &q, 0);
+            upper_screen(tally, || case.name.clone(), &q, 0);
         }
     }
+    codes(tally);
     let mut random = Random::new(!seed);
     for i in 0..count {
         let q = generate::question(seed, i);
         let name = || format!("question {i} of seed {seed}");
-        screen(tally, name, &q, random.draw());
+        let any = random.draw();
+        screen(tally, name, &q, any);
+        upper_screen(tally, name, &q, any);
         progress("drawings", i + 1, count, tally, began);
     }
 }

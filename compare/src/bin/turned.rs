@@ -11,6 +11,7 @@
 use compare::check::{Tally, argument};
 use compare::ffi::{
     DrawingResult, FlightResult, InstantResult, JudgeResult, Loaded, PointResult, SheetResult,
+    UpperPointResult,
 };
 use compare::generate::{self, Random};
 use compare::independent::{self, Question};
@@ -144,7 +145,7 @@ fn difference(wanted: JudgeResult, found: JudgeResult) -> String {
     }
 }
 
-/// Holds a drawing and twelve of its seconds against the independent ones.
+/// Holds the drawings of both paths and twelve seconds of each against the independent ones.
 fn drawn(judge: &Loaded, q: &Question, any: u64) {
     if judge.drawing(q) != DrawingResult::of(&screen::drawing(q)) {
         report("another drawing");
@@ -152,6 +153,14 @@ fn drawn(judge: &Loaded, q: &Question, any: u64) {
     for second in screen::seconds(q, any) {
         if judge.point(q, second) != PointResult::of(&screen::point(q, second)) {
             report("another point");
+        }
+    }
+    if judge.upper_drawing(q) != DrawingResult::of_upper(&screen::upper_drawing(q)) {
+        report("another upper drawing");
+    }
+    for second in screen::upper_seconds(q, any) {
+        if judge.upper_point(q, second) != UpperPointResult::of(&screen::upper_point(q, second)) {
+            report("another upper point");
         }
     }
 }

@@ -1,3 +1,4 @@
 pub mod States
 pub mod Replies
 pub mod InstantReplies
+pub mod MeaningReplies

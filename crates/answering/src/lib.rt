@@ -19,6 +19,7 @@ use record::Record;
 use verdict::Verdict;
 
 mod instants;
+mod meanings;
 
 // What a sheet keeps from record to record: the settings, and the encounter that was accepted last, if any. It goes by value, in and out of each step: a
 // refused record's state is then the old one in plain sight, and no step can change it unseen.

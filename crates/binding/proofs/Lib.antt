@@ -1,2 +1,3 @@
 pub mod StoredNumbers
 pub mod Zero
+pub mod GreaterCodes

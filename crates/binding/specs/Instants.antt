@@ -3,7 +3,6 @@ use Rattle.std.specs.Prelude.{Bool, true, false, ℕ, Option, Some, None, Result
 use Rattle.question.specs.declared.refusal.Refusal.{Refusal}
 use Rattle.question.specs.RefusalNumbers.{refusal_number}
 use Rattle.candidate.specs.FlightAnswers.{yes_number}
-use Rattle.named_instant.specs.declared.Standing.{Standing}
 use Rattle.named_instant.specs.declared.InstantAnswer.{InstantAnswer}
 use Rattle.named_instant.specs.declared.InstantAnswer.TheVariants.{Judged, OutOfReach}
 use Rattle.binding.specs.declared.InstantResult.{InstantResult}

@@ -3,3 +3,4 @@ pub mod Flat
 pub mod Screen
 pub mod Flight
 pub mod Instants
+pub mod Coded

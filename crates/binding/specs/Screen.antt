@@ -1,5 +1,5 @@
 -- A drawing and a screen point as structs of numbers, as they cross to C and Rust, with 0 in the fields that are not used.
-use Rattle.std.specs.Prelude.{List, [], ◌∷◌, ℕ, zero, suc, length, pos, Float, Err, Ok, Result}
+use Rattle.std.specs.Prelude.{List, [], ◌∷◌, ℕ, zero, suc, length, pos, Float, Err, None, Ok, Option, Result, Some}
 use Rattle.instant.specs.declared.Time.{Time}
 use Rattle.screen.specs.declared.Piece.{Piece}
 use Rattle.screen.specs.declared.DrawnPiece.{DrawnPiece}
@@ -7,6 +7,7 @@ use Rattle.screen.specs.Floats.{float}
 use Rattle.binding.specs.declared.PieceResult.{PieceResult}
 use Rattle.binding.specs.declared.DrawingResult.{DrawingResult}
 use Rattle.binding.specs.declared.PointResult.{PointResult}
+use Rattle.binding.specs.declared.UpperPointResult.{UpperPointResult}
 use Rattle.question.specs.declared.refusal.Refusal.{Refusal}
 use Rattle.screen.specs.declared.ScreenPoint.{ScreenPoint}
 use Rattle.question.specs.RefusalNumbers.{refusal_number}
@@ -50,11 +51,28 @@ piece_in (p ∷ l) zero = flat_piece p
 piece_in (p ∷ l) (suc i) = piece_in l i
 
 -- "at most three pieces", or the refusal
+abbrev pub flat_pieces : List DrawnPiece → DrawingResult
+flat_pieces l = record { refusal = 0; pieces = length l; first = piece_in l 0; second = piece_in l 1; third = piece_in l 2 }
+
+abbrev pub without_pieces : ℕ → DrawingResult
+without_pieces number = record { refusal = number; pieces = 0; first = no_piece; second = no_piece; third = no_piece }
+
 abbrev pub flat_content : Result (List DrawnPiece) Refusal → DrawingResult
-flat_content (Err why) = record { refusal = refusal_number why; pieces = 0; first = no_piece; second = no_piece; third = no_piece }
-flat_content (Ok l) = record { refusal = 0; pieces = length l; first = piece_in l 0; second = piece_in l 1; third = piece_in l 2 }
+flat_content (Err why) = without_pieces (refusal_number why)
+flat_content (Ok l) = flat_pieces l
+
+-- of the upper path also that it is not asked for
+abbrev pub flat_upper_content : Result (Option (List DrawnPiece)) Refusal → DrawingResult
+flat_upper_content (Err why) = without_pieces (refusal_number why)
+flat_upper_content (Ok None) = without_pieces 0
+flat_upper_content (Ok (Some l)) = flat_pieces l
 
 -- "a time and a height as two 64-bit floats", or the refusal
 abbrev pub flat_point : Result ScreenPoint Refusal → PointResult
 flat_point (Err why) = record { refusal = refusal_number why; time = no_number; height = no_number }
 flat_point (Ok p) = record { refusal = 0; time = p.time; height = p.height }
+
+abbrev pub flat_upper_point : Result (Option ScreenPoint) Refusal → UpperPointResult
+flat_upper_point (Err why) = record { refusal = refusal_number why; asked = 0; time = no_number; height = no_number }
+flat_upper_point (Ok None) = record { refusal = 0; asked = 0; time = no_number; height = no_number }
+flat_upper_point (Ok (Some p)) = record { refusal = 0; asked = 1; time = p.time; height = p.height }

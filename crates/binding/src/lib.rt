@@ -2,18 +2,20 @@
 // numbers pass as themselves.
 #![tactic(auto)]
 
-ghost use Rattle.std.specs.Prelude.{◌≡◌, length};
+ghost use Rattle.std.specs.Prelude.{◌≡◌, length, Err};
 ghost use Rattle.judge.specs.Answers.{answer};
 ghost use Rattle.sheet.specs.WholeSheet.{outcome, area_after};
 ghost use Rattle.candidate.specs.FlightAnswers.{yes_number, flight_answer};
 ghost use Rattle.binding.specs.PlainNumbers.{plain_encounter, plain_settings, plain_question, plain_advice};
-ghost use Rattle.screen.specs.Drawings.{content, screen_drawing};
-ghost use Rattle.screen.specs.Points.{screen_point};
+ghost use Rattle.screen.specs.Drawings.{pieces_of, content, upper_content, screen_drawing, upper_drawing};
+ghost use Rattle.screen.specs.Points.{screen_point, upper_point};
+ghost use Rattle.coded.specs.Coded.{coded_question};
 ghost use Rattle.binding.specs.Flat.{with_times, flat_verdict, flat_answer, flat_outcome};
 ghost use Rattle.binding.specs.Flight.{flat_entry, flat_flight};
 ghost use Rattle.binding.specs.Instants.{side_number, flat_instant};
 ghost use Rattle.named_instant.specs.InstantAnswers.{instant_answer};
-ghost use Rattle.binding.specs.Screen.{no_piece, flat_piece, flat_content, flat_point};
+ghost use Rattle.binding.specs.Screen.{no_piece, flat_piece, flat_pieces, flat_content, flat_upper_content, flat_point, flat_upper_point};
+ghost use Rattle.binding.specs.Coded.{flat_question};
 
 use candidate::{Flown, OneSidedAdvice};
 use instant::{Instant, Time};
@@ -207,7 +209,8 @@ pub struct PieceResult {
     pub constant: f64,
 }
 
-// Of a drawn question refusal 0 and its one to three pieces in time's order; of a refused one the number, and no piece. What is not used is 0.
+// Of a drawn path refusal 0 and its one to three pieces in time's order; of an upper path that is not asked for no piece; of a refused question the number, and no
+// piece. What is not used is 0.
 #[repr(C)]
 #[derive(Clone, Copy, Default)]
 pub struct DrawingResult {
@@ -247,28 +250,24 @@ impl From<DrawnPiece> for PieceResult {
     }
 }
 
-impl From<Result<Drawing, Refusal>> for DrawingResult {
-    ghost from_gives = { λ drawing flat. flat ≡ flat_content (content drawing) };
+impl From<Drawing> for DrawingResult {
+    ghost from_gives = { λ drawing flat. flat ≡ flat_pieces (pieces_of drawing) };
 
     #[tactic(auto, using(crate::proofs::Zero::default_float))]
-    fn from(drawing: Result<Drawing, Refusal>) -> DrawingResult {
+    fn from(drawing: Drawing) -> DrawingResult {
         match drawing {
-            Err(why) => DrawingResult {
-                refusal: u64::from(why.number()),
-                ..DrawingResult::default()
-            },
-            Ok(Drawing::One(p)) => DrawingResult {
+            Drawing::One(p) => DrawingResult {
                 pieces: 1,
                 first: PieceResult::from(p),
                 ..DrawingResult::default()
             },
-            Ok(Drawing::Two(p, q)) => DrawingResult {
+            Drawing::Two(p, q) => DrawingResult {
                 pieces: 2,
                 first: PieceResult::from(p),
                 second: PieceResult::from(q),
                 ..DrawingResult::default()
             },
-            Ok(Drawing::Three(p, q, r)) => DrawingResult {
+            Drawing::Three(p, q, r) => DrawingResult {
                 refusal: 0,
                 pieces: 3,
                 first: PieceResult::from(p),
@@ -279,11 +278,54 @@ impl From<Result<Drawing, Refusal>> for DrawingResult {
     }
 }
 
+impl From<Refusal> for DrawingResult {
+    ghost from_gives = { λ why flat. flat ≡ flat_content (Err why) };
+
+    #[tactic(auto, using(crate::proofs::Zero::default_float))]
+    fn from(why: Refusal) -> DrawingResult {
+        DrawingResult {
+            refusal: u64::from(why.number()),
+            ..DrawingResult::default()
+        }
+    }
+}
+
+impl From<Result<Drawing, Refusal>> for DrawingResult {
+    ghost from_gives = { λ drawing flat. flat ≡ flat_content (content drawing) };
+
+    fn from(drawing: Result<Drawing, Refusal>) -> DrawingResult {
+        match drawing {
+            Ok(drawing) => DrawingResult::from(drawing),
+            Err(why) => DrawingResult::from(why),
+        }
+    }
+}
+
+impl From<Result<Option<Drawing>, Refusal>> for DrawingResult {
+    ghost from_gives = { λ drawing flat. flat ≡ flat_upper_content (upper_content drawing) };
+
+    #[tactic(auto, using(crate::proofs::Zero::default_float))]
+    fn from(drawing: Result<Option<Drawing>, Refusal>) -> DrawingResult {
+        match drawing {
+            Ok(Some(drawing)) => DrawingResult::from(drawing),
+            Ok(None) => DrawingResult::default(),
+            Err(why) => DrawingResult::from(why),
+        }
+    }
+}
+
 // Draws the lower path of a question, any 64-bit values.
 pub fn screen_drawing(encounter: Encounter, settings: Settings, question: Question) -> DrawingResult
     ensures { result ≡ flat_content (screen_drawing encounter settings question) }
 {
     DrawingResult::from(screen::screen_drawing(encounter, settings, question))
+}
+
+// Draws the upper path of a question, if it is two-sided; any 64-bit values.
+pub fn upper_drawing(encounter: Encounter, settings: Settings, question: Question) -> DrawingResult
+    ensures { result ≡ flat_upper_content (upper_drawing encounter settings question) }
+{
+    DrawingResult::from(screen::upper_drawing(encounter, settings, question))
 }
 
 // A screen point and refusal 0, or the refusal's number and two zeros.
@@ -324,6 +366,49 @@ pub fn screen_point(
     ensures { result ≡ flat_point (screen_point encounter settings question second) }
 {
     PointResult::from(screen::screen_point(encounter, settings, question, second))
+}
+
+// A screen point of the upper path, refusal 0 and 1 for asked; of a one-sided question zeros; of a refused point the number. What is not used is 0.
+#[repr(C)]
+#[derive(Clone, Copy, Default)]
+pub struct UpperPointResult {
+    pub refusal: u64,
+    pub asked: u64,
+    pub time: f64,
+    pub height: f64,
+}
+
+impl From<Result<Option<ScreenPoint>, Refusal>> for UpperPointResult {
+    ghost from_gives = { λ answer flat. flat ≡ flat_upper_point answer };
+
+    #[tactic(auto, using(crate::proofs::Zero::default_float))]
+    fn from(answer: Result<Option<ScreenPoint>, Refusal>) -> UpperPointResult {
+        match answer {
+            Err(why) => UpperPointResult {
+                refusal: u64::from(why.number()),
+                ..UpperPointResult::default()
+            },
+            Ok(None) => UpperPointResult::default(),
+            Ok(Some(upper)) => UpperPointResult {
+                refusal: 0,
+                asked: 1,
+                time: upper.time,
+                height: upper.height,
+            },
+        }
+    }
+}
+
+// The screen point of a question's upper path at a second, if it is two-sided; any 64-bit values.
+pub fn upper_point(
+    encounter: Encounter,
+    settings: Settings,
+    question: Question,
+    second: u64,
+) -> UpperPointResult
+    ensures { result ≡ flat_upper_point (upper_point encounter settings question second) }
+{
+    UpperPointResult::from(screen::upper_point(encounter, settings, question, second))
 }
 
 // Of a flight that is flown refusal 0, 1 if it obeys, 1 if it is inside the puck, and the first such second; of a refused one the number. What is not used is 0.
@@ -428,4 +513,61 @@ pub fn judge_at(
     ensures { result ≡ flat_instant (instant_answer encounter settings question instant) }
 {
     InstantResult::from(named_instant::judge_at(encounter, settings, question, instant))
+}
+
+// The free question that a code asks, and refusal 0; of a refused code the number. What is not used is 0.
+#[repr(C)]
+#[derive(Clone, Copy, PartialEq, Eq, Default)]
+pub struct QuestionResult {
+    pub refusal: u64,
+    pub sides: i64,
+    pub sense: i64,
+    pub target: i64,
+    pub upper_target: i64,
+    pub strength: i64,
+    pub upper_strength: i64,
+    pub delay: i64,
+    pub limit: i64,
+}
+
+impl From<Result<Question, Refusal>> for QuestionResult {
+    ghost from_gives = { λ answer flat. flat ≡ flat_question answer };
+
+    fn from(answer: Result<Question, Refusal>) -> QuestionResult {
+        match answer {
+            Err(why) => QuestionResult {
+                refusal: u64::from(why.number()),
+                ..QuestionResult::default()
+            },
+            Ok(question) => QuestionResult {
+                refusal: 0,
+                sides: question.sides,
+                sense: question.sense,
+                target: question.target,
+                upper_target: question.upper_target,
+                strength: question.strength,
+                upper_strength: question.upper_strength,
+                delay: question.delay,
+                limit: question.limit,
+            },
+        }
+    }
+}
+
+// A code as a byte of a sheet has it, 0 to 255; a greater number is unknown as well.
+#[tactic(auto, using(crate::proofs::GreaterCodes::greater_code_unknown))]
+fn question_of_code(code: u64, v: i64, limit: i64) -> Result<Question, Refusal>
+    ensures { result ≡ coded_question code v limit }
+{
+    match u8::try_from(code) {
+        Ok(byte) => coded::coded_question(byte, v, limit),
+        Err(_) => Err(Refusal::CodeUnknown),
+    }
+}
+
+// The free question that a code asks an ownship of vertical speed v: any 64-bit values. Speed and limit are not tested: the judge tests them with the question.
+pub fn coded_question(code: u64, v: i64, limit: i64) -> QuestionResult
+    ensures { result ≡ flat_question (coded_question code v limit) }
+{
+    QuestionResult::from(question_of_code(code, v, limit))
 }

@@ -6,19 +6,21 @@ ghost use Rattle.std.specs.Prelude.{◌≡◌, length};
 ghost use Rattle.judge.specs.Answers.{answer};
 ghost use Rattle.sheet.specs.WholeSheet.{outcome, area_after};
 ghost use Rattle.candidate.specs.FlightAnswers.{flight_answer};
-ghost use Rattle.screen.specs.Drawings.{screen_drawing};
-ghost use Rattle.screen.specs.Points.{screen_point};
+ghost use Rattle.screen.specs.Drawings.{screen_drawing, upper_drawing};
+ghost use Rattle.screen.specs.Points.{screen_point, upper_point};
 ghost use Rattle.binding.specs.PlainNumbers.{plain_encounter, plain_settings, plain_question, plain_advice};
 ghost use Rattle.binding.specs.Flat.{flat_answer, flat_outcome};
 ghost use Rattle.binding.specs.Flight.{flat_flight};
 ghost use Rattle.binding.specs.Instants.{flat_instant};
 ghost use Rattle.instant.specs.Order.{◌÷◌};
 ghost use Rattle.named_instant.specs.InstantAnswers.{instant_answer};
-ghost use Rattle.binding.specs.Screen.{flat_content, flat_point};
+ghost use Rattle.binding.specs.Screen.{flat_content, flat_upper_content, flat_point, flat_upper_point};
+ghost use Rattle.binding.specs.Coded.{flat_question};
+ghost use Rattle.coded.specs.Coded.{coded_question};
 
 use binding::{
-    DrawingResult, FlightResult, InstantResult, JudgeResult, PointResult, SheetResult,
-    plain_advice, plain_encounter, plain_question, plain_settings,
+    DrawingResult, FlightResult, InstantResult, JudgeResult, PointResult, QuestionResult,
+    SheetResult, UpperPointResult, plain_advice, plain_encounter, plain_question, plain_settings,
 };
 use instant::Instant;
 
@@ -106,6 +108,44 @@ pub extern "C" fn screen_drawing(
     )
 }
 
+// Draws the upper path of sixteen plain numbers, if they are two-sided; any 64-bit values.
+#[unsafe(no_mangle)]
+pub extern "C" fn upper_drawing(
+    r: i64,
+    h: i64,
+    c: i64,
+    v: i64,
+    vi: i64,
+    p: i64,
+    k: i64,
+    e: i64,
+    sides: i64,
+    sense: i64,
+    target: i64,
+    upper_target: i64,
+    strength: i64,
+    upper_strength: i64,
+    delay: i64,
+    limit: i64,
+) -> DrawingResult
+    ensures { result ≡ flat_upper_content (upper_drawing (plain_encounter r h c v vi) (plain_settings p k e) (plain_question sides sense target upper_target strength upper_strength delay limit)) }
+{
+    binding::upper_drawing(
+        plain_encounter(r, h, c, v, vi),
+        plain_settings(p, k, e),
+        plain_question(
+            sides,
+            sense,
+            target,
+            upper_target,
+            strength,
+            upper_strength,
+            delay,
+            limit,
+        ),
+    )
+}
+
 // The screen point of sixteen plain numbers at a second, any 64-bit values.
 #[unsafe(no_mangle)]
 pub extern "C" fn screen_point(
@@ -130,6 +170,46 @@ pub extern "C" fn screen_point(
     ensures { result ≡ flat_point (screen_point (plain_encounter r h c v vi) (plain_settings p k e) (plain_question sides sense target upper_target strength upper_strength delay limit) second) }
 {
     binding::screen_point(
+        plain_encounter(r, h, c, v, vi),
+        plain_settings(p, k, e),
+        plain_question(
+            sides,
+            sense,
+            target,
+            upper_target,
+            strength,
+            upper_strength,
+            delay,
+            limit,
+        ),
+        second,
+    )
+}
+
+// The screen point of the upper path of sixteen plain numbers at a second, if they are two-sided; any 64-bit values.
+#[unsafe(no_mangle)]
+pub extern "C" fn upper_point(
+    r: i64,
+    h: i64,
+    c: i64,
+    v: i64,
+    vi: i64,
+    p: i64,
+    k: i64,
+    e: i64,
+    sides: i64,
+    sense: i64,
+    target: i64,
+    upper_target: i64,
+    strength: i64,
+    upper_strength: i64,
+    delay: i64,
+    limit: i64,
+    second: u64,
+) -> UpperPointResult
+    ensures { result ≡ flat_upper_point (upper_point (plain_encounter r h c v vi) (plain_settings p k e) (plain_question sides sense target upper_target strength upper_strength delay limit) second) }
+{
+    binding::upper_point(
         plain_encounter(r, h, c, v, vi),
         plain_settings(p, k, e),
         plain_question(
@@ -213,4 +293,12 @@ pub extern "C" fn judge_at(
         ),
         Instant { n, m },
     )
+}
+
+// The free question that a code asks an ownship of vertical speed v, any 64-bit values.
+#[unsafe(no_mangle)]
+pub extern "C" fn coded_question(code: u64, v: i64, limit: i64) -> QuestionResult
+    ensures { result ≡ flat_question (coded_question code v limit) }
+{
+    binding::coded_question(code, v, limit)
 }

@@ -7,19 +7,18 @@ use mathlib.Core.Bool.{Bool, true, false, cond}
 use mathlib.Core.Logic.{◌↔◌, inl, inr}
 use Prim.Native.Nat.{ℕ, ◌*◌, ◌<◌, ◌≤◌}
 use native.Mathlib.Omega.{arith}
-use lib.Dec.{T, leb, eqb, ltb}
+use lib.Dec.{eqb}
 use lib.Ieee.Bits.{is_true}
 use Rattle.instant.specs.declared.Instant.{Instant}
 use Rattle.instant.specs.declared.Time.{Time}
 use Rattle.instant.specs.Order.{◌÷◌, ◌≈◌}
-use Rattle.instant.specs.LowestTerms.{LowestTerms, shows}
+use Rattle.instant.specs.LowestTerms.{shows}
 use Rattle.instant.specs.Lowest.{lowest}
 use Rattle.instant.proofs.LowestTerms.{lowest_is, lowest_unique, lowest_same}
 use Rattle.instant.proofs.TimeOrder.{≈-trans}
 use Rattle.path.specs.declared.SensedQuestion.{SensedQuestion}
 use Rattle.path.specs.declared.Side.{Side}
 use Rattle.path.specs.declared.Side.TheVariants.{Lower, Upper}
-use Rattle.path.specs.Window.{InTime, Window}
 use Rattle.path.specs.inner.Tests.{in_window, in_conflict}
 use Rattle.path.specs.inner.Sizes.{Sized}
 use Rattle.path.proofs.Decisions.{window_decided, conflict_decided}
@@ -27,7 +26,7 @@ use Rattle.question.specs.declared.Encounter.{Encounter}
 use Rattle.question.specs.declared.Settings.{Settings}
 use Rattle.question.specs.declared.Question.{Question}
 use Rattle.question.specs.declared.refusal.Refusal.{Refusal}
-use Rattle.question.specs.RefusalNumbers.{refusal_number, with_number}
+use Rattle.question.specs.RefusalNumbers.{with_number}
 use Rattle.question.specs.Refusals.{two_sided, refusal}
 use Rattle.sensed.specs.Sensed.{sensed_question}
 use Rattle.sensed.proofs.AcceptedSizes.{accepted_sizes, accepted_upper_sizes}
@@ -55,7 +54,7 @@ use Rattle.demands.proofs.PlainAnswers.{limited, spelled, unspelled, judged_as}
 
 -- ---- what holds at an instant, spelled out
 module _ (s : SensedQuestion) (n m : ℕ) where
-  window_said : (in_window s n m ≡ true) ↔ WindowAt s n m
+  pub window_said : (in_window s n m ≡ true) ↔ WindowAt s n m
   window_said = (
     λ e. let w = (window_decided s n m).0 (passes _ e) in record { near = w.near; limited = (limited s.limit n m).0 w.intime },
     λ w. is_true _ ((window_decided s n m).1 (record { near = w.near; intime = (limited s.limit n m).1 w.limited })),
@@ -200,7 +199,7 @@ module _ (s : SensedQuestion) where
       go false c f = absurd cc
 
 module _ (x : Encounter) (y : Settings) (z : Question) where
-  accepted_where_judged : (v : Verdict) → answer x y z ≡ Ok v → refusal x y z ≡ Ok tt
+  pub accepted_where_judged : (v : Verdict) → answer x y z ≡ Ok v → refusal x y z ≡ Ok tt
   unfolding answer
   accepted_where_judged v e = go (refusal x y z) refl e
     where
@@ -214,7 +213,7 @@ module _ (x : Encounter) (y : Settings) (z : Question) where
       let same : j.0 ≡ v = cc in
       subst (Said (two_sided z) (sensed_question x y z)) same j.2.said
 
-  sized : (side : Side) → refusal x y z ≡ Ok tt → (side ≡ Upper → two_sided z ≡ true) → Sized side (sensed_question x y z)
+  pub sized : (side : Side) → refusal x y z ≡ Ok tt → (side ≡ Upper → two_sided z ≡ true) → Sized side (sensed_question x y z)
   sized Lower e two = accepted_sizes x y z e
   sized Upper e two = (accepted_sizes x y z e, accepted_upper_sizes x y z e (two refl))
 

@@ -9,3 +9,5 @@ pub mod ScreenRight
 pub mod ScreenExported
 pub mod FlightsRight
 pub mod InstantsRight
+pub mod CodesAsked
+pub mod MeaningsRight

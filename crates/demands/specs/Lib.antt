@@ -11,3 +11,5 @@ pub mod Unchanged
 pub mod Larger
 pub mod Flights
 pub mod Instants
+pub mod Codes
+pub mod Meanings

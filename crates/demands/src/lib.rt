@@ -3,24 +3,27 @@
 #![tactic(auto)]
 
 ghost use Rattle.std.specs.Prelude.{take, pos, ◌-ℤ◌};
-ghost use Rattle.screen.specs.Drawings.{content};
+ghost use Rattle.screen.specs.Drawings.{content, upper_content};
 ghost use Rattle.question.specs.RefusalNumbers.{with_number};
 ghost use Rattle.demands.specs.PlainAnswer.{RightlyAnswered, RightlyExported};
 ghost use Rattle.demands.specs.Sheets.{SheetAnswered, outcome_in};
 ghost use Rattle.demands.specs.Program.{Written};
 ghost use Rattle.demands.specs.Larger.{InRange, LargerOfZero};
 ghost use Rattle.demands.specs.Flights.{RightlyFlown, ClearKeepsOut, flight_in};
+ghost use Rattle.demands.specs.Meanings.{RightlyExplained};
 ghost use Rattle.demands.specs.Instants.{RightlyNamed, AgreesAt, OneAnswer, instant_in};
-ghost use Rattle.demands.specs.Screen.{RightlyDrawn, RightlyPlaced, content_in, point_in};
+ghost use Rattle.demands.specs.Codes.{RightlyCoded};
+ghost use Rattle.demands.specs.Screen.{RightlyDrawn, RightlyPlaced, UpperRightlyDrawn, UpperRightlyPlaced, content_in, point_in, upper_content_in, upper_point_in};
 
 use binding::{
-    DrawingResult, FlightResult, InstantResult, JudgeResult, PointResult, SheetResult,
-    answer_sheet_bytes, judge_plain,
+    DrawingResult, FlightResult, InstantResult, JudgeResult, PointResult, QuestionResult,
+    SheetResult, UpperPointResult, answer_sheet_bytes, judge_plain,
 };
 use candidate::{Flown, OneSidedAdvice};
 use conflict::positive_difference;
 use instant::Instant;
 use judge::judge;
+use meaning::{Meaning, explain};
 use named_instant::{InstantAnswer, judge_at};
 use program::{Output, program_output};
 use question::{Encounter, Question, Refusal, Settings};
@@ -50,6 +53,14 @@ pub fn judge_plain_demanded(
     ensures { RightlyExported encounter settings question result }
 {
     judge_plain(encounter, settings, question)
+}
+
+// The question that a code asks, for C and Rust.
+#[tactic(auto, using(crate::proofs::CodesAsked::rightly_coded))]
+pub fn exported_code_demanded(code: u64, v: i64, limit: i64) -> QuestionResult
+    ensures { RightlyCoded code v limit result }
+{
+    binding::coded_question(code, v, limit)
 }
 
 // The entry for sheets.
@@ -120,6 +131,54 @@ pub fn exported_point_demanded(
     ensures { RightlyPlaced encounter settings question second (point_in result) }
 {
     binding::screen_point(encounter, settings, question, second)
+}
+
+// The upper path on the screen.
+#[tactic(auto, using(crate::proofs::ScreenRight::upper_rightly_drawn))]
+pub fn upper_drawing_demanded(
+    encounter: Encounter,
+    settings: Settings,
+    question: Question,
+) -> Result<Option<Drawing>, Refusal>
+    ensures { UpperRightlyDrawn encounter settings question (with_number (upper_content result)) }
+{
+    screen::upper_drawing(encounter, settings, question)
+}
+
+#[tactic(auto, using(crate::proofs::ScreenRight::upper_rightly_placed))]
+pub fn upper_point_demanded(
+    encounter: Encounter,
+    settings: Settings,
+    question: Question,
+    second: u64,
+) -> Result<Option<ScreenPoint>, Refusal>
+    ensures { UpperRightlyPlaced encounter settings question second (with_number result) }
+{
+    screen::upper_point(encounter, settings, question, second)
+}
+
+// The same for C and Rust.
+#[tactic(auto, using(crate::proofs::ScreenExported::upper_rightly_drawn))]
+pub fn exported_upper_drawing_demanded(
+    encounter: Encounter,
+    settings: Settings,
+    question: Question,
+) -> DrawingResult
+    ensures { UpperRightlyDrawn encounter settings question (upper_content_in result) }
+{
+    binding::upper_drawing(encounter, settings, question)
+}
+
+#[tactic(auto, using(crate::proofs::ScreenExported::upper_rightly_placed))]
+pub fn exported_upper_point_demanded(
+    encounter: Encounter,
+    settings: Settings,
+    question: Question,
+    second: u64,
+) -> UpperPointResult
+    ensures { UpperRightlyPlaced encounter settings question second (upper_point_in result) }
+{
+    binding::upper_point(encounter, settings, question, second)
 }
 
 // "Larger of zero and a difference", the line of arithmetic under every verdict. No entry: the verdict and the drawing call it with q and u_d.
@@ -211,6 +270,21 @@ pub fn instant_and_verdict_demanded(
     let judged = judge(encounter, settings, question);
     let named = judge_at(encounter, settings, question, instant);
     BothInstants { judged, named }
+}
+
+// What the verdict means, beside the verdict.
+#[tactic(auto, using(crate::proofs::MeaningsRight::rightly_explained))]
+pub fn meaning_and_verdict_demanded(
+    encounter: Encounter,
+    settings: Settings,
+    question: Question,
+) -> (Result<Verdict, Refusal>, Result<Meaning, Refusal>)
+    ensures { RightlyExplained encounter settings question result.0 result.1 }
+{
+    (
+        judge(encounter, settings, question),
+        explain(encounter, settings, question),
+    )
 }
 
 // The answers at two instants.

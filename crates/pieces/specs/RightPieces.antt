@@ -1,15 +1,23 @@
--- What it is for a list of pieces to split a question's lower path: "Pieces meet where the paths of document 01 change rule, at times kept as whole seconds,
--- remainder and divisor; pieces of no length are left out." A height at n/m stands times 2 × a × m², as `path` has it.
-use Rattle.std.specs.Prelude.{◌≡◌, List, [], ◌∷◌, ◌⊎◌, ℕ, ◌+◌, ◌*◌, ◌≤◌, eqb}
+-- What it is for a list of pieces to split a side's path: "Pieces meet where the paths of document 01 change rule, at times kept as whole seconds,
+-- remainder and divisor; pieces of no length are left out." A height at n/m stands times 2 × a × m², upper 2 × b × m², as `path` has it.
+use Rattle.std.specs.Prelude.{◌≡◌, List, [], ◌∷◌, ◌⊎◌, ℕ, ◌+◌, ◌*◌, ◌≤◌, eqb, ℤ}
 use Rattle.instant.specs.declared.Instant.{Instant}
 use Rattle.instant.specs.declared.Time.{Time}
 use Rattle.instant.specs.Order.{◌÷◌, ◌≼◌, ◌≺◌, ◌≈◌}
 use Rattle.instant.specs.Lowest.{lowest}
 use Rattle.path.specs.declared.SensedQuestion.{SensedQuestion}
-use Rattle.path.specs.Letters.{a, d}
-use Rattle.path.specs.Paths.{lower_path}
+use Rattle.path.specs.declared.Side.{Side}
+use Rattle.path.specs.declared.Side.TheVariants.{Lower, Upper}
+use Rattle.path.specs.Letters.{d}
+use Rattle.path.specs.Paths.{lower_path, upper_path}
+use Rattle.conflict.specs.inner.Divided.{strength_of}
 use Rattle.pieces.specs.declared.WholePiece.{WholePiece}
 use Rattle.pieces.specs.Pieces.{missing_speed, unless, piece_height}
+
+-- the path of a side: f or j
+abbrev pub path_of : Side → SensedQuestion → ℕ → ℕ → ℤ
+path_of Lower s = lower_path s
+path_of Upper s = upper_path s
 
 -- the first piece holds from 0
 abbrev pub FromStart : List WholePiece → Type 0
@@ -23,10 +31,10 @@ InOrder (p ∷ []) = Unit {0}
 InOrder (p ∷ r ∷ l) = (p.from ≺ r.from) × InOrder (r ∷ l)
 
 -- each piece is the path at every rational time from its own to the next one's, both included, and the last one without an end
-abbrev pub FollowPath : SensedQuestion → List WholePiece → Type 0
-FollowPath s [] = Unit {0}
-FollowPath s (p ∷ []) = (n m : ℕ) → 1 ≤ m → p.from ≼ n ÷ m → piece_height p n m ≡ lower_path s n m
-FollowPath s (p ∷ r ∷ l) = ((n m : ℕ) → 1 ≤ m → p.from ≼ n ÷ m → n ÷ m ≼ r.from → piece_height p n m ≡ lower_path s n m) × FollowPath s (r ∷ l)
+abbrev pub FollowPath : Side → SensedQuestion → List WholePiece → Type 0
+FollowPath side s [] = Unit {0}
+FollowPath side s (p ∷ []) = (n m : ℕ) → 1 ≤ m → p.from ≼ n ÷ m → piece_height p n m ≡ path_of side s n m
+FollowPath side s (p ∷ r ∷ l) = ((n m : ℕ) → 1 ≤ m → p.from ≼ n ÷ m → n ÷ m ≼ r.from → piece_height p n m ≡ path_of side s n m) × FollowPath side s (r ∷ l)
 
 -- two pieces agree where they meet
 abbrev pub Agree : List WholePiece → Type 0
@@ -41,15 +49,17 @@ meeting_times (p ∷ []) = []
 meeting_times (p ∷ r ∷ l) = lowest r.from.n r.from.m ∷ meeting_times (r ∷ l)
 
 -- the times at which the path changes rule: at d, if there is a delay, and at d + G/a, if speed is missing
-abbrev pub rule_changes : SensedQuestion → List Time
-rule_changes s = unless (eqb (d s) 0) (lowest (d s) 1) (unless (eqb (missing_speed s) 0) (lowest (d s * a s + missing_speed s) (a s)) [])
+abbrev pub rule_changes : Side → SensedQuestion → List Time
+rule_changes side s =
+    unless (eqb (d s) 0) (lowest (d s) 1)
+    (unless (eqb (missing_speed side s) 0) (lowest (d s * strength_of side s + missing_speed side s) (strength_of side s)) [])
 
-pub record RightPieces (s : SensedQuestion) (l : List WholePiece) : Type 0 where
+pub record RightPieces (side : Side) (s : SensedQuestion) (l : List WholePiece) : Type 0 where
   pub start : FromStart l
   pub order : InOrder l
-  pub follow : FollowPath s l
+  pub follow : FollowPath side s l
   pub agree : Agree l
-  pub meetings : meeting_times l ≡ rule_changes s
+  pub meetings : meeting_times l ≡ rule_changes side s
 
 -- p is the piece of the list that holds at t: it has begun, and the next one has not
 abbrev pub Holds : List WholePiece → WholePiece → Instant → Type 0

@@ -1,6 +1,7 @@
 -- The drawing of an accepted question is right, and so is the point of each second from 0 to 600; all others are refused. Assumes nothing.
-use Rattle.std.specs.Prelude.{Err, Ok, Result, ⊤}
-use mathlib.Core.Path.{◌≡◌, refl, sym, ap, subst, ◌∙◌}
+use Rattle.std.specs.Prelude.{Err, None, Ok, Option, Result, Some, ⊤}
+use Rattle.std.specs.Bool.{then_some}
+use mathlib.Core.Path.{◌≡◌, refl, sym, ap, ap₂, subst, ◌∙◌}
 use mathlib.Core.Bool.{Bool, true, false, cond}
 use mathlib.Core.List.{List, [], ◌∷◌}
 use mathlib.Core.Logic.{◌↔◌}
@@ -11,27 +12,29 @@ use lib.IntN.{ℤ, pos, nat_abs, ◌+ℤ◌, ◌*ℤ◌}
 use lib.Ieee.{Float, binary64, add, mul}
 use Rattle.instant.specs.Order.{◌÷◌}
 use Rattle.path.specs.declared.SensedQuestion.{SensedQuestion}
+use Rattle.path.specs.declared.Side.{Side}
+use Rattle.path.specs.declared.Side.TheVariants.{Lower, Upper}
 use Rattle.path.specs.Letters.{d}
-use Rattle.path.specs.Paths.{lower_path}
-use Rattle.path.specs.inner.Sizes.{Sizes}
+use Rattle.path.specs.inner.Sizes.{Sized}
 use Rattle.question.specs.declared.Encounter.{Encounter}
 use Rattle.question.specs.declared.Settings.{Settings}
 use Rattle.question.specs.declared.Question.{Question}
-use Rattle.question.specs.Refusals.{is_number, refusal}
+use Rattle.question.specs.Refusals.{is_number, refusal, two_sided}
 use Rattle.sensed.specs.Sensed.{sensed_question}
-use Rattle.sensed.proofs.AcceptedSizes.{accepted_sizes}
+use Rattle.sensed.proofs.AcceptedSizes.{accepted_sizes, accepted_upper_sizes}
 use Rattle.pieces.specs.declared.WholePiece.{WholePiece}
 use Rattle.pieces.specs.Pieces.{missing_speed, delay_piece, arc_piece, last_piece, unless, pieces, piece_at, last_second, piece_height}
+use Rattle.pieces.specs.RightPieces.{path_of}
 use Rattle.pieces.specs.inner.PieceSizes.{most_square, most_linear, most_constant, PieceSizes}
-use Rattle.pieces.proofs.Fields.{delay_sizes, arc_sizes, last_sizes, piece_at_sizes}
+use Rattle.pieces.proofs.Fields.{strength_positive, delay_sizes, arc_sizes, last_sizes, piece_at_sizes}
 use Rattle.pieces.proofs.PathPieces.{held_follows, right_pieces}
 use Rattle.screen.specs.declared.Piece.{Piece}
 use Rattle.screen.specs.declared.DrawnPiece.{DrawnPiece}
 use Rattle.screen.specs.declared.Drawing.{Drawing}
 use Rattle.screen.specs.Floats.{float, Exactly}
-use Rattle.screen.specs.Drawings.{float_piece, drawn_pieces, pieces_of, content, checked_content, screen_drawing}
-use Rattle.screen.specs.Points.{drawn_height, point_at, point_refusal, checked_point, screen_point}
-use Rattle.screen.specs.RightScreen.{IsStraight, ExactPiece, AllExact, RightDrawing, RightContent, ExactOnTheWay, RightPoint, RightPointAnswer}
+use Rattle.screen.specs.Drawings.{float_piece, drawn_pieces, pieces_of, content, upper_content, checked, screen_drawing, upper_drawing}
+use Rattle.screen.specs.Points.{drawn_height, point_at, point_refusal, screen_point, upper_point}
+use Rattle.screen.specs.RightScreen.{IsStraight, ExactPiece, AllExact, RightDrawing, RightContent, RightUpperContent, ExactOnTheWay, RightPoint, RightPointAnswer, RightUpperAnswer}
 use Rattle.screen.proofs.WholeFloats.{float_exact}
 use Rattle.screen.proofs.Evaluation.{most_middle, number_zero, step_product, step_sum, step_size, arc_height}
 use Rattle.screen.proofs.PointChecks.{in_time_lem, late_second, refused_point}
@@ -101,35 +104,43 @@ exact_unless : (b : Bool) (p : WholePiece) (l : List WholePiece) → ExactPiece 
 exact_unless true p l h k = k
 exact_unless false p l h k = (h, k)
 
--- ---- a question
-module _ (s : SensedQuestion) (z : Sizes s) where
-  all_exact : (b c : Bool) → AllExact (unless b (delay_piece s) (unless c (arc_piece s) (last_piece s ∷ [])))
+-- ---- a side of a question
+module _ (side : Side) (s : SensedQuestion) (z : Sized side s) where
+  all_exact : (b c : Bool) → AllExact (unless b (delay_piece side s) (unless c (arc_piece side s) (last_piece side s ∷ [])))
   all_exact b c =
-      let last = exact_piece (last_piece s) (last_sizes s z) in
-      let later = exact_unless c (arc_piece s) (last_piece s ∷ []) (exact_piece (arc_piece s) (arc_sizes s z)) (last, tt) in
-      exact_unless b (delay_piece s) (unless c (arc_piece s) (last_piece s ∷ [])) (exact_piece (delay_piece s) (delay_sizes s z)) later
+      let last = exact_piece (last_piece side s) (last_sizes side s z) in
+      let later = exact_unless c (arc_piece side s) (last_piece side s ∷ []) (exact_piece (arc_piece side s) (arc_sizes side s z)) (last, tt) in
+      exact_unless b (delay_piece side s) (unless c (arc_piece side s) (last_piece side s ∷ [])) (exact_piece (delay_piece side s) (delay_sizes side s z)) later
 
-  pub right_drawing : RightDrawing s (drawn_pieces s)
+  pub right_drawing : RightDrawing side s (drawn_pieces side s)
   unfolding drawn_pieces
-  right_drawing = record { whole = pieces s; same = refl; right = right_pieces s z.a_lo; exact = all_exact (eqb (d s) 0) (eqb (missing_speed s) 0) }
+  right_drawing = record {
+    whole = pieces side s;
+    same = refl;
+    right = right_pieces side s (strength_positive side s z);
+    exact = all_exact (eqb (d s) 0) (eqb (missing_speed side s) 0);
+  }
 
   module _ (t : ℕ) (h : t ≤ last_second) where
-    drawn_height_lem : drawn_height s t ≡ lower_path s t 1
+    follows : piece_height (piece_at side s (t ÷ 1)) t 1 ≡ path_of side s t 1
+    follows = held_follows side s (strength_positive side s z) t 1 (omega arith)
+
+    drawn_height_lem : drawn_height side s t ≡ path_of side s t 1
     unfolding drawn_height
-    drawn_height_lem = held_follows s z.a_lo t 1 (omega arith)
+    drawn_height_lem = follows
 
-    height_small : nat_abs (lower_path s t 1) ≤ most_height
-    height_small = subst (λ (k : ℤ). nat_abs k ≤ most_height) (held_follows s z.a_lo t 1 (omega arith)) (height_size (piece_at s (t ÷ 1)) (piece_at_sizes s z (t ÷ 1)) t h)
+    height_small : nat_abs (path_of side s t 1) ≤ most_height
+    height_small = subst (λ (k : ℤ). nat_abs k ≤ most_height) follows (height_size (piece_at side s (t ÷ 1)) (piece_at_sizes side s z (t ÷ 1)) t h)
 
-    pub right_point : RightPoint s t (point_at s t)
+    pub right_point : RightPoint side s t (point_at side s t)
     unfolding point_at
     right_point = record {
       time = refl;
       height = ap float drawn_height_lem;
       time_exact = float_exact (pos t) (omega arith);
-      height_exact = subst (λ (k : ℤ). Exactly (float k) (lower_path s t 1)) (sym drawn_height_lem) (float_exact (lower_path s t 1) (omega (arith, height_small)));
+      height_exact = subst (λ (k : ℤ). Exactly (float k) (path_of side s t 1)) (sym drawn_height_lem) (float_exact (path_of side s t 1) (omega (arith, height_small)));
       small = omega (arith, height_small);
-      way = exact_on_the_way (piece_at s (t ÷ 1)) (piece_at_sizes s z (t ÷ 1)) t h;
+      way = exact_on_the_way (piece_at side s (t ÷ 1)) (piece_at_sizes side s z (t ÷ 1)) t h;
     }
 
 -- ---- an answer's content determines it
@@ -160,30 +171,86 @@ content_determines (Ok v) (Err why) e = absurd (let z : ◌≡◌ {A = ℕ} 0 1 
 content_determines (Err why) (Ok v) e = absurd (let z : ◌≡◌ {A = ℕ} 0 1 = cc in omega arith)
 content_determines (Err why) (Err why') e = cc
 
--- ---- the entries: each accepted question is drawn, and each second of it up to 600
+pub upper_content_determines : (r r' : Result (Option Drawing) Refusal) → upper_content r ≡ upper_content r' → r ≡ r'
+upper_content_determines (Ok None) (Ok None) e = refl
+upper_content_determines (Ok None) (Ok (Some w)) e = absurd cc
+upper_content_determines (Ok None) (Err why) e = absurd cc
+upper_content_determines (Ok (Some v)) (Ok None) e = absurd cc
+upper_content_determines (Ok (Some v)) (Ok (Some w)) e = ap {B = Result (Option Drawing) Refusal} (λ d. Ok (Some d)) (pieces_determine v w cc)
+upper_content_determines (Ok (Some v)) (Err why) e = absurd cc
+upper_content_determines (Err why) (Ok None) e = absurd cc
+upper_content_determines (Err why) (Ok (Some v)) e = absurd cc
+upper_content_determines (Err why) (Err why') e = cc
+
+-- ---- the entries: each accepted question is drawn, and each second of it up to 600; its upper path if it is two-sided
 module _ (x : Encounter) (y : Settings) (z : Question) where
-  pub accepted_drawing : refusal x y z ≡ Ok tt → RightContent (sensed_question x y z) (screen_drawing x y z)
+  abbrev s : SensedQuestion
+  s = sensed_question x y z
+
+  sized : refusal x y z ≡ Ok tt → two_sided z ≡ true → Sized Upper s
+  sized e two = (accepted_sizes x y z e, accepted_upper_sizes x y z e two)
+
+  pub accepted_drawing : refusal x y z ≡ Ok tt → RightContent s (screen_drawing x y z)
   unfolding screen_drawing
-  accepted_drawing e =
-      subst (λ (k : Result ⊤ Refusal). RightContent (sensed_question x y z) (checked_content k (drawn_pieces (sensed_question x y z)))) (sym e) (right_drawing (sensed_question x y z) (accepted_sizes x y z e))
+  accepted_drawing e = subst (λ (k : Result ⊤ Refusal). RightContent s (checked k (drawn_pieces Lower s))) (sym e) (right_drawing Lower s (accepted_sizes x y z e))
 
   pub refused_drawing : (n : Refusal) → refusal x y z ≡ Err n → screen_drawing x y z ≡ Err n
   unfolding screen_drawing
-  refused_drawing n e = ap (λ (k : Result ⊤ Refusal). checked_content k (drawn_pieces (sensed_question x y z))) e
+  refused_drawing n e = ap (λ (k : Result ⊤ Refusal). checked k (drawn_pieces Lower s)) e
+
+  -- the upper path
+  abbrev drawn_above : Bool → Result ⊤ Refusal → Result (Option (List DrawnPiece)) Refusal
+  drawn_above b k = checked k (then_some b (drawn_pieces Upper s))
+
+  upper_by : (b : Bool) (k : Result ⊤ Refusal) → two_sided z ≡ b → refusal x y z ≡ k → upper_drawing x y z ≡ drawn_above b k
+  unfolding upper_drawing
+  upper_by b k f e = ap₂ drawn_above f e
+
+  pub two_sided_upper : refusal x y z ≡ Ok tt → two_sided z ≡ true → upper_drawing x y z ≡ Ok (Some (drawn_pieces Upper s))
+  two_sided_upper e two = upper_by true (Ok tt) two e
+
+  pub accepted_upper : refusal x y z ≡ Ok tt → two_sided z ≡ true → RightUpperContent s (upper_drawing x y z)
+  accepted_upper e two = subst (RightUpperContent s) (sym (two_sided_upper e two)) (right_drawing Upper s (sized e two))
+
+  pub no_upper : refusal x y z ≡ Ok tt → two_sided z ≡ false → upper_drawing x y z ≡ Ok None
+  no_upper e one = upper_by false (Ok tt) one e
+
+  pub refused_upper : (n : Refusal) → refusal x y z ≡ Err n → upper_drawing x y z ≡ Err n
+  refused_upper n e = upper_by (two_sided z) (Err n) refl e
 
   module _ (t : ℕ) where
     abbrev answered : Result ⊤ Refusal → Result ScreenPoint Refusal
-    answered k = checked_point k (point_at (sensed_question x y z) t)
+    answered k = checked k (point_at Lower s t)
 
     by_check : (k : Result ⊤ Refusal) → point_refusal x y z t ≡ k → screen_point x y z t ≡ answered k
     unfolding screen_point
     by_check k e = ap answered e
 
-    pub accepted_second : refusal x y z ≡ Ok tt → t ≤ last_second → RightPointAnswer (sensed_question x y z) t (screen_point x y z t)
-    accepted_second e h = subst (RightPointAnswer (sensed_question x y z) t) (sym (by_check (Ok tt) (in_time_lem x y z t e h))) (right_point (sensed_question x y z) (accepted_sizes x y z e) t h)
+    pub accepted_second : refusal x y z ≡ Ok tt → t ≤ last_second → RightPointAnswer s t (screen_point x y z t)
+    accepted_second e h = subst (RightPointAnswer s t) (sym (by_check (Ok tt) (in_time_lem x y z t e h))) (right_point Lower s (accepted_sizes x y z e) t h)
 
     pub second_above : refusal x y z ≡ Ok tt → last_second < t → screen_point x y z t ≡ Err Refusal.TimesOutside
     second_above e h = by_check (Err Refusal.TimesOutside) (late_second x y z t e h)
 
     pub refused_second : (n : Refusal) → refusal x y z ≡ Err n → screen_point x y z t ≡ Err n
     refused_second n e = by_check (Err n) (refused_point x y z t n e)
+
+    -- the upper path
+    abbrev answered_above : Bool → Result ⊤ Refusal → Result (Option ScreenPoint) Refusal
+    answered_above b k = checked k (then_some b (point_at Upper s t))
+
+    upper_by_check : (b : Bool) (k : Result ⊤ Refusal) → two_sided z ≡ b → point_refusal x y z t ≡ k → upper_point x y z t ≡ answered_above b k
+    unfolding upper_point
+    upper_by_check b k f e = ap₂ answered_above f e
+
+    pub accepted_upper_second : refusal x y z ≡ Ok tt → two_sided z ≡ true → t ≤ last_second → RightUpperAnswer s t (upper_point x y z t)
+    accepted_upper_second e two h = subst (RightUpperAnswer s t) (sym (upper_by_check true (Ok tt) two (in_time_lem x y z t e h))) (right_point Upper s (sized e two) t h)
+
+    pub no_upper_second : refusal x y z ≡ Ok tt → two_sided z ≡ false → t ≤ last_second → upper_point x y z t ≡ Ok None
+    no_upper_second e one h = upper_by_check false (Ok tt) one (in_time_lem x y z t e h)
+
+    pub upper_second_above : refusal x y z ≡ Ok tt → last_second < t → upper_point x y z t ≡ Err Refusal.TimesOutside
+    upper_second_above e h = upper_by_check (two_sided z) (Err Refusal.TimesOutside) refl (late_second x y z t e h)
+
+    pub refused_upper_second : (n : Refusal) → refusal x y z ≡ Err n → upper_point x y z t ≡ Err n
+    refused_upper_second n e = upper_by_check (two_sided z) (Err n) refl (refused_point x y z t n e)

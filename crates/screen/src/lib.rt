@@ -1,16 +1,19 @@
-// The path on the screen: the pieces of the lower path with 64-bit floats, and the point of each whole second. `specs/` says what they are.
+// The paths on the screen: the pieces of each with 64-bit floats, and the point of each whole second. `specs/` says what they are.
 #![tactic(auto)]
 
-ghost use Rattle.std.specs.Prelude.{◌≡◌, ◌≤◌, IfOk, IfErr, Err};
+ghost use Rattle.std.specs.Prelude.{◌≡◌, ◌≤◌, IfOk, IfErr, Err, true};
+ghost use Rattle.path.specs.declared.Side.TheVariants.{Upper};
+ghost use Rattle.question.specs.Refusals.{two_sided};
+ghost use Rattle.sensed.specs.Sensed.{sensed_question};
 ghost use Rattle.pieces.specs.Pieces.{last_second};
 ghost use Rattle.pieces.specs.inner.PieceSizes.{PieceSizes};
-ghost use Rattle.screen.specs.Drawings.{float_piece, drawn_piece, pieces_of, content, drawn_pieces, screen_drawing};
-ghost use Rattle.screen.specs.Points.{evaluated, point_at, point_refusal, screen_point};
+ghost use Rattle.screen.specs.Drawings.{float_piece, drawn_piece, pieces_of, content, upper_content, drawn_pieces, screen_drawing, upper_drawing};
+ghost use Rattle.screen.specs.Points.{evaluated, point_at, point_refusal, screen_point, upper_point};
 
 use instant::{Time, lowest_terms};
-use path::SizedQuestion;
+use path::{Side, SideQuestion};
 use pieces::{WholePiece, arc_piece, delay_piece, last_piece, missing_speed, piece_at};
-use question::{AcceptedQuestion, Encounter, Question, Refusal, Settings};
+use question::{AcceptedQuestion, Encounter, Question, Refusal, Settings, two_sided};
 use refusals::accept;
 use sensed::sensed_question;
 
@@ -71,25 +74,37 @@ fn drawn_piece(p: WholePiece) -> DrawnPiece
 }
 
 // The pieces that have a length.
-fn drawing_of(s: SizedQuestion) -> Drawing
-    ensures { pieces_of result ≡ drawn_pieces s.sensed }
+fn drawing_of(asked: SideQuestion) -> Drawing
+    ensures { pieces_of result ≡ drawn_pieces asked.side asked.question.sensed }
 {
-    let last = drawn_piece(last_piece(s));
-    if missing_speed(s) == 0 {
-        if s.sensed.delay == 0 {
+    let last = drawn_piece(last_piece(asked));
+    if missing_speed(asked) == 0 {
+        if asked.question.sensed.delay == 0 {
             return Drawing::One(last);
         }
-        return Drawing::Two(drawn_piece(delay_piece(s)), last);
+        return Drawing::Two(drawn_piece(delay_piece(asked)), last);
     }
-    let arc = drawn_piece(arc_piece(s));
-    if s.sensed.delay == 0 {
+    let arc = drawn_piece(arc_piece(asked));
+    if asked.question.sensed.delay == 0 {
         return Drawing::Two(arc, last);
     }
-    Drawing::Three(drawn_piece(delay_piece(s)), arc, last)
+    Drawing::Three(drawn_piece(delay_piece(asked)), arc, last)
 }
 
-// The entry for a drawing: any 64-bit values.
-#[tactic(auto, using(sensed::proofs::AcceptedSizes::accepted_sizes), unfolding(crate::specs::Drawings::screen_drawing))]
+// A side that an accepted question asks.
+fn side_of(asked: AcceptedQuestion, side: Side) -> SideQuestion
+    requires { side ≡ Upper → two_sided asked.question ≡ true }
+    ensures same { result.side ≡ side }
+    ensures sensed { result.question.sensed ≡ sensed_question asked.encounter asked.settings asked.question }
+{
+    SideQuestion {
+        side,
+        question: sensed_question(asked),
+    }
+}
+
+// The entry for a drawing of the lower path: any 64-bit values.
+#[tactic(auto, unfolding(crate::specs::Drawings::screen_drawing))]
 pub fn screen_drawing(
     encounter: Encounter,
     settings: Settings,
@@ -98,7 +113,23 @@ pub fn screen_drawing(
     ensures { content result ≡ screen_drawing encounter settings question }
 {
     let asked = accept(encounter, settings, question)?;
-    Ok(drawing_of(sensed_question(asked)))
+    Ok(drawing_of(side_of(asked, Side::Lower)))
+}
+
+// The entry for a drawing of the upper path, which a one-sided question does not have: any 64-bit values.
+#[tactic(auto, unfolding(crate::specs::Drawings::upper_drawing))]
+pub fn upper_drawing(
+    encounter: Encounter,
+    settings: Settings,
+    question: Question,
+) -> Result<Option<Drawing>, Refusal>
+    ensures { upper_content result ≡ upper_drawing encounter settings question }
+{
+    let asked = accept(encounter, settings, question)?;
+    if !two_sided(question) {
+        return Ok(None);
+    }
+    Ok(Some(drawing_of(side_of(asked, Side::Upper))))
 }
 
 // The constant coefficient is added last: it is +0 where it is 0, so no −0 comes out.
@@ -111,11 +142,11 @@ fn evaluate(piece: Piece, t: f64) -> f64
     }
 }
 
-fn point_at(s: SizedQuestion, second: u64) -> ScreenPoint
+fn point_at(asked: SideQuestion, second: u64) -> ScreenPoint
     requires { second ≤ last_second }
-    ensures { result ≡ point_at s.sensed second }
+    ensures { result ≡ point_at asked.side asked.question.sensed second }
 {
-    let piece = float_piece(piece_at(s, second));
+    let piece = float_piece(piece_at(asked, second));
     let time = second as f64;
     ScreenPoint {
         time: time,
@@ -142,8 +173,8 @@ fn accept_second(
     Ok(asked)
 }
 
-// The entry for a screen point: any 64-bit values.
-#[tactic(auto, using(sensed::proofs::AcceptedSizes::accepted_sizes, crate::proofs::PointChecks::in_time_lem), unfolding(crate::specs::Points::screen_point))]
+// The entry for a screen point of the lower path: any 64-bit values.
+#[tactic(auto, using(crate::proofs::PointChecks::in_time_lem), unfolding(crate::specs::Points::screen_point))]
 pub fn screen_point(
     encounter: Encounter,
     settings: Settings,
@@ -153,5 +184,22 @@ pub fn screen_point(
     ensures { result ≡ screen_point encounter settings question second }
 {
     let asked = accept_second(encounter, settings, question, second)?;
-    Ok(point_at(sensed_question(asked), second))
+    Ok(point_at(side_of(asked, Side::Lower), second))
+}
+
+// The entry for a screen point of the upper path, which a one-sided question does not have: any 64-bit values.
+#[tactic(auto, using(crate::proofs::PointChecks::in_time_lem), unfolding(crate::specs::Points::upper_point))]
+pub fn upper_point(
+    encounter: Encounter,
+    settings: Settings,
+    question: Question,
+    second: u64,
+) -> Result<Option<ScreenPoint>, Refusal>
+    ensures { result ≡ upper_point encounter settings question second }
+{
+    let asked = accept_second(encounter, settings, question, second)?;
+    if !two_sided(asked.question) {
+        return Ok(None);
+    }
+    Ok(Some(point_at(side_of(asked, Side::Upper), second)))
 }

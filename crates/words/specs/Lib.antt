@@ -1,3 +1,5 @@
 pub mod Texts
 pub mod InstantTexts
 pub mod NamedInstants
+pub mod MeaningTexts
+pub mod Meanings

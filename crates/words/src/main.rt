@@ -1,14 +1,16 @@
 // Answers question sheets in words. Each argument names a sheet's file; `-` is standard input; `--at=17 1/2` names an instant, of which the answers to the sheets
 // behind it speak too.
-// What is said of a record is what `answering::State` replies, by `answer` and `answer_at`: nothing is judged here.
+// What is said of a record is what `answering::State` replies, by `answer`, `explain` and `answer_at`: nothing is judged here.
 #![tactic(auto)]
 
 ghost use Rattle.std.specs.Prelude.{◌≡◌, IfOk, Some};
 ghost use Rattle.words.specs.InstantTexts.{instant_in};
 ghost use Rattle.words.specs.NamedInstants.{named};
+ghost use Rattle.words.specs.Meanings.{meaning_said};
 
 use answering::State;
 use instant::Instant;
+use meaning::Meaning;
 use question::{Encounter, Refusal};
 use reading::{each_argument, open_named, read_part, say_unread};
 use record::{CheckedSheet, MAX_SHEET, Record, next_at, record_at};
@@ -17,6 +19,7 @@ use std::{fmt, io, str};
 use verdict::Verdict;
 
 mod instant_text;
+mod meanings;
 mod phrases;
 mod standings;
 
@@ -110,6 +113,13 @@ fn print_asked(out: &impl Print, notes: Notes) -> io::Result<()> {
     )
 }
 
+// What the verdict means, if the record is a question that is not refused.
+fn meaning_said(state: State, given: Record) -> Option<Meaning>
+    ensures { result ≡ meaning_said state given }
+{
+    state.explain(given)?.ok()
+}
+
 // What holds at the instant that is named, if one is and the record is a question that is not refused.
 fn named(
     state: State,
@@ -129,14 +139,18 @@ fn named(
     })
 }
 
-// An answer with its number, and what holds at the instant that is named.
+// An answer with its number, what it means, and what holds at the instant that is named.
 fn print_answer(
     out: &impl Print,
     number: usize,
     answer: Result<Verdict, Refusal>,
+    meaning: Option<Meaning>,
     named: Option<Named>,
 ) -> io::Result<()> {
     println!(out; "answer {number}: {}", Words(answer))?;
+    if let Some(meaning) = meaning {
+        println!(out; "    {}", Words(meaning))?;
+    }
     match named {
         Some(named) => println!(out; "    {named}"),
         None => Ok(()),
@@ -173,7 +187,13 @@ fn print_answers(
                 record: records,
                 byte: at,
             };
-            print_answer(out, answers, answer, named(state, given, answer, instant))?;
+            print_answer(
+                out,
+                answers,
+                answer,
+                meaning_said(state, given),
+                named(state, given, answer, instant),
+            )?;
             print_given(out, place, given, notes)?;
         }
         notes.update(records, given, reply);

@@ -1,5 +1,5 @@
 -- The sizes of a piece, which follow from those of its question (`path`, Sizes): what keeps each float exact. Each bound is the sum of what the three pieces
--- need, term by term.
+-- need, term by term; the upper path's pieces need no more than the lower's.
 use Rattle.std.specs.Prelude.{ℕ, ◌+◌, ◌*◌, ◌≤◌, nat_abs}
 use Rattle.limits.specs.Limits.{max_strength, max_delay_acceleration, max_delay}
 use Rattle.path.specs.declared.Side.TheVariants.{Lower}

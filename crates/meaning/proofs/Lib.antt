@@ -1,0 +1,5 @@
+mod Scaled
+mod Fields
+mod Above
+mod Sensed
+mod Instants

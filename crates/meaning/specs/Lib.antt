@@ -1,0 +1,4 @@
+pub mod Moments
+pub mod Gaps
+pub mod Meanings
+pub mod inner
