@@ -350,6 +350,10 @@ impl Summary {
     }
 }
 
+/// A crate that the exported functions' crates use, and none of them calls: the program `words` does, and
+/// `compare/words` holds what it writes. The checker tries wrong answers of its (crates/meaning/must-fail).
+const UNCALLED: &str = "crates/meaning/";
+
 fn all(root: &Path, numbers: [u64; 2]) -> Result<Summary, String> {
     let modules = rattle::modules(root, "binding_c").map_err(|error| error.to_string())?;
     let folder = root.join("target/compare/turned");
@@ -366,6 +370,9 @@ fn all(root: &Path, numbers: [u64; 2]) -> Result<Summary, String> {
     let mut summary = Summary::default();
     let mut met = vec![false; EQUIVALENT.len()];
     for comparison in rattle::comparisons(&modules) {
+        if modules[comparison.module].file.starts_with(UNCALLED) {
+            continue;
+        }
         let line = comparison.turned_line(&modules);
         let function = comparison.function(&modules);
         let name = format!("{function}: {}", line.trim());
