@@ -1,4 +1,6 @@
 // The paths on the screen: the pieces of each with 64-bit floats, and the point of each whole second. `specs/` says what they are.
+//
+// What both sides share is inlined: so each side gets code of its own, and no question is copied. Called, it costs a point twice the instructions.
 #![tactic(auto)]
 
 ghost use Rattle.std.specs.Prelude.{◌≡◌, ◌≤◌, IfOk, IfErr, Err, true};
@@ -74,6 +76,7 @@ fn drawn_piece(p: WholePiece) -> DrawnPiece
 }
 
 // The pieces that have a length.
+#[inline(always)]
 fn drawing_of(asked: SideQuestion) -> Drawing
     ensures { pieces_of result ≡ drawn_pieces asked.side asked.question.sensed }
 {
@@ -142,6 +145,7 @@ fn evaluate(piece: Piece, t: f64) -> f64
     }
 }
 
+#[inline(always)]
 fn point_at(asked: SideQuestion, second: u64) -> ScreenPoint
     requires { second ≤ last_second }
     ensures { result ≡ point_at asked.side asked.question.sensed second }
@@ -156,6 +160,7 @@ fn point_at(asked: SideQuestion, second: u64) -> ScreenPoint
 
 // A second above 600 gets 6, after the refusals of the entry for plain numbers.
 #[tactic(auto, using(crate::proofs::PointChecks::in_time_lem, crate::proofs::PointChecks::late_second, crate::proofs::PointChecks::refused_point))]
+#[inline(always)]
 fn accept_second(
     encounter: Encounter,
     settings: Settings,
