@@ -7,7 +7,7 @@
 ghost use Rattle.std.specs.Prelude.{◌≡◌, ◌+◌, ◌*◌, ◌^◌, ◌<◌, ◌≤◌};
 
 use binding::{DrawingResult, PieceResult, PointResult, screen_drawing, screen_point};
-use cases::{encounter_in, question_in, report_arguments, settings_in, whole_cases};
+use cases::{encounter_in, numbers_in, question_in, report_arguments, settings_in, whole_cases};
 use std::fmt::Display;
 use std::{fmt, io};
 
@@ -229,7 +229,7 @@ fn report_on(bytes: &[u8]) -> Report {
         left_over,
     };
     for case in cases {
-        report.count(&case.map(u64::from_be_bytes));
+        report.count(&numbers_in(case));
     }
     report
 }

@@ -9,7 +9,7 @@ ghost use Rattle.flights.specs.declared.TheConstants.{FLIGHT_ROOM};
 
 use binding::FlightResult;
 use candidate::{Flown, OneSidedAdvice, judge_flight};
-use cases::{encounter_in, report_arguments, settings_in};
+use cases::{encounter_in, numbers_in, report_arguments, settings_in};
 use question::Refusal;
 use std::fmt::Display;
 use std::{fmt, io};
@@ -52,7 +52,7 @@ fn split_case(numbers: &[[u8; 8]]) -> Option<(Case<'_>, &[[u8; 8]])>
     ensures { IfSome result (λ split. length split.1.now < length numbers.now) }
 {
     let (head, rest) = numbers.split_first_chunk::<HEAD>()?;
-    let head = head.map(u64::from_be_bytes);
+    let head = numbers_in(head);
     let count = head[13] as usize;
     let given = head[14] as usize;
     if FLIGHT_ROOM < count || count < given {

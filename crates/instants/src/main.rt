@@ -7,7 +7,7 @@
 ghost use Rattle.std.specs.Prelude.{◌≡◌, ◌+◌, ◌^◌, ◌<◌, ◌≤◌};
 
 use binding::InstantResult;
-use cases::{encounter_in, question_in, report_arguments, settings_in, whole_cases};
+use cases::{encounter_in, numbers_in, question_in, report_arguments, settings_in, whole_cases};
 use instant::Instant;
 use named_instant::{InstantAnswer, judge_at};
 use question::Refusal;
@@ -114,7 +114,7 @@ fn report_on(bytes: &[u8]) -> Report {
         left_over,
     };
     for case in cases {
-        report.count(&case.map(u64::from_be_bytes));
+        report.count(&numbers_in(case));
     }
     report
 }
