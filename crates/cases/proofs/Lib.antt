@@ -1,1 +1,2 @@
 mod FirstLine
+mod Written

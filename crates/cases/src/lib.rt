@@ -11,6 +11,9 @@ ghost use Rattle.std.specs.Io.KnownBytes.{Appends};
 ghost use Rattle.cases.specs.Numbers.{encounter_in, settings_in, question_in};
 ghost use Rattle.cases.specs.Reports.{report_text, unread_text, WritesReport, WritesArgument};
 
+mod line;
+
+use line::write_line;
 use question::{Encounter, Question, Settings};
 use reading::{NAME_ROOM, argument_count, argument_part, open_named, read_part};
 use std::fmt::Display;
@@ -129,7 +132,7 @@ pub fn report_file<I: Read, O: Write, T: Display + Drop, F: Fn(&[u8]) -> T>(
     output.write_all(b": ")?;
     let (line, cases) = split_first_line(read_part(input, room)?);
     output.write_all(line)?;
-    writeln!(output, "{}", report(cases))
+    write_line(output, &report(cases))
 }
 
 fn report_argument<R: Files + Env, O: Write, T: Display + Drop, F: Fn(&[u8]) -> T>(
