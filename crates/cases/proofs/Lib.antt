@@ -1,2 +1,3 @@
+mod Behind
 mod FirstLine
 mod Written

@@ -9,7 +9,7 @@ ghost use Rattle.std.specs.List.{FoldsTo};
 ghost use Rattle.std.specs.Io.BufRead.{take_through, drop_through};
 ghost use Rattle.std.specs.Io.KnownBytes.{Appends};
 ghost use Rattle.cases.specs.Numbers.{encounter_in, settings_in, question_in};
-ghost use Rattle.cases.specs.Reports.{report_text, unread_text, WritesReport, WritesArgument};
+ghost use Rattle.cases.specs.Reports.{unread_text, WritesReport, WritesArgument};
 
 mod line;
 
@@ -106,14 +106,6 @@ fn split_first_line(bytes: &[u8]) -> (&[u8], &[u8])
     }
 }
 
-// By `write_all`, as a file's name is bytes, perhaps no text.
-fn write_unread<O: Write>(output: &mut O, name: &[u8]) -> io::Result<()>
-    ensures { OnOk result (Appends (O.contents output.old) (O.contents output.new) (unread_text name.now)) }
-{
-    output.write_all(name)?;
-    writeln!(output, ": cannot be read")
-}
-
 // Writes the name and the first line of a file, as much of it as the room has, and the report on the rest. Name and line by `write_all`: they are bytes,
 // perhaps no text. Output, room and report are parameters, here and below: a struct would hold two `&mut`s, and each function had to promise besides that both stay where
 // they are. That the report may be called is asked with it: a function can't know what a closure that it is handed needs.
@@ -129,12 +121,34 @@ pub fn report_file<I: Read, O: Write, T: Display + Drop, F: Fn(&[u8]) -> T>(
         × WritesReport T.output (FnReturnsAt F.Fn report.now) (O.contents output.old) name.now file (O.contents output.new)) }
 {
     output.write_all(name)?;
+    report_opened(input, output, room, report)
+}
+
+// What stands behind the name.
+fn report_opened<I: Read, O: Write, T: Display + Drop, F: Fn(&[u8]) -> T>(
+    input: &mut I,
+    output: &mut O,
+    room: &mut [u8],
+    report: &F,
+) -> io::Result<()>
+    requires { F.IsAlwaysCallable report.now }
+    ensures { OnOk result ((file : List ℕ) × IfSome (I.remaining input.old) (λ bytes. file ≡ take (length room.old) bytes)
+        × WritesReport T.output (FnReturnsAt F.Fn report.now) (O.contents output.old) [] file (O.contents output.new)) }
+{
     output.write_all(b": ")?;
     let (line, cases) = split_first_line(read_part(input, room)?);
     output.write_all(line)?;
     write_line(output, &report(cases))
 }
 
+fn write_unread<O: Write>(output: &mut O) -> io::Result<()>
+    ensures { OnOk result (Appends (O.contents output.old) (O.contents output.new) (unread_text [])) }
+{
+    writeln!(output, ": cannot be read")
+}
+
+// The name stands there before its file is opened, which may wait, as at a pipe that nothing writes to. By `write_all`, as a file's name is bytes, perhaps no text.
+#[tactic(auto, using(crate::proofs::Behind::unread_behind))]
 fn report_argument<R: Files + Env, O: Write, T: Display + Drop, F: Fn(&[u8]) -> T>(
     rt: &R,
     output: &mut O,
@@ -146,10 +160,11 @@ fn report_argument<R: Files + Env, O: Write, T: Display + Drop, F: Fn(&[u8]) -> 
     ensures { OnOk result ((name : List ℕ) × WritesArgument T.output (FnReturnsAt F.Fn report.now) (O.contents output.old) name (O.contents output.new)) }
 {
     let mut name = [0u8; NAME_ROOM];
-    let name = argument_part(rt, k, &mut name);
-    match open_named(rt, name) {
-        Ok(mut file) => report_file(&mut file, output, name, room, report),
-        Err(_) => write_unread(output, name),
+    let argument = argument_part(rt, k, &mut name);
+    output.write_all(argument)?;
+    match open_named(rt, argument) {
+        Ok(mut file) => report_opened(&mut file, output, room, report),
+        Err(_) => write_unread(output),
     }
 }
 
