@@ -1,10 +1,10 @@
 // The bytes of an answer record, and writing them into an area. `specs/` says what the bytes are.
 #![tactic(auto)]
 
-ghost use Rattle.std.specs.Prelude.{◌≡◌, ◌≤◌, length};
+ghost use Rattle.std.specs.Prelude.{◌≡◌, ◌≤◌, [], ◌∷◌, length};
 ghost use Rattle.std.proofs.lemmas.List.Edits.{sets};
-ghost use Rattle.judge.specs.Answers.{time_numbers};
-ghost use Rattle.reply.specs.AnswerBytes.{big_endian, body_bytes, reply_bytes};
+ghost use Rattle.judge.specs.Answers.{answers, time_numbers};
+ghost use Rattle.reply.specs.AnswerBytes.{big_endian, body_bytes, record_bytes, reply_bytes};
 
 use instant::Time;
 use judge::sides_number;
@@ -51,6 +51,15 @@ fn write_time(area: &mut [u8], time: Time)
     write_number(&mut area[8..], time.divisor);
 }
 
+// A refusal's record, of any number, not of those of `Refusal` alone.
+pub fn write_refusal(area: &mut [u8], number: u8)
+    requires { 2 ≤ length area.old }
+    ensures { area.new ≡ sets area.old 0 (record_bytes (answers 68 (number ∷ []))) }
+{
+    area[0] = REFUSED;
+    area[1] = number;
+}
+
 fn write_answer(area: &mut [u8], answer: Result<Verdict, Refusal>)
     requires { length (reply_bytes (Some answer)) ≤ length area.old }
     ensures { area.new ≡ sets area.old 0 (reply_bytes (Some answer)) }
@@ -69,10 +78,7 @@ fn write_answer(area: &mut [u8], answer: Result<Verdict, Refusal>)
             write_time(&mut area[1..], lower);
             write_time(&mut area[13..], upper);
         }
-        Err(why) => {
-            area[0] = REFUSED;
-            area[1] = why.number();
-        }
+        Err(why) => write_refusal(area, why.number()),
     }
 }
 
