@@ -2,7 +2,7 @@
 #![tactic(auto)]
 
 ghost use Rattle.std.specs.Prelude.{◌≡◌, cond, Ok, Err};
-ghost use Rattle.std.specs.Option.{option_map};
+ghost use Rattle.std.specs.Option.{option_map, option_map_or, option_and_then};
 ghost use Rattle.std.specs.Result.{result_unwrap_or, result_err};
 ghost use Rattle.question.specs.declared.refusal.Refusal.TheVariants.{EncounterOutside, PuckOutside, DelayAccelerationOutside};
 ghost use Rattle.question.specs.Refusals.{encounter_within, puck_within, delay_acceleration_within};
@@ -40,8 +40,9 @@ impl State {
         }
     }
 
-    // What a record leaves, and its reply, if it has one.
+    // What a record leaves, and its reply, if it has one. Inlined, with `keep`, so that a walk over records keeps its state at hand (docs/PERFORMANCE.md).
     #[tactic(auto, using(crate::proofs::Kept::kept_state, crate::proofs::Kept::kept_reply), unfolding(crate::specs::States::state_after, crate::specs::Replies::reply_to))]
+    #[inline(always)]
     pub fn answer(self, given: Record) -> (State, Option<Result<Verdict, Refusal>>)
         ensures left { result.0 ≡ state_after self given }
         ensures reply { result.1 ≡ reply_to self given }
@@ -64,12 +65,27 @@ impl State {
         }
     }
 
+    // The same of what `record_at` gives, which is none where the kind is unknown: that leaves the state as it was, and gets no reply.
+    pub fn answer_if_known(self, given: Option<Record>) -> (State, Option<Result<Verdict, Refusal>>)
+        ensures left { result.0 ≡ option_map_or (state_after self) given self }
+        ensures reply { result.1 ≡ option_and_then (reply_to self) given }
+    {
+        match given {
+            None => (self, None),
+            Some(record) => self.answer(record),
+        }
+    }
+
     // The next state is kept, and gets no answer; of one that is refused the answer says why.
+    #[inline(always)]
     fn keep(self, next: Result<State, Refusal>) -> (State, Option<Result<Verdict, Refusal>>)
         ensures left { result.0 ≡ result_unwrap_or next self }
         ensures reply { result.1 ≡ option_map Err (result_err next) }
     {
-        (next.unwrap_or(self), next.err().map(Err))
+        match next {
+            Ok(state) => (state, None),
+            Err(why) => (self, Some(Err(why))),
+        }
     }
 
     // The state with an encounter, or refusal 1.

@@ -144,7 +144,9 @@ fn question_in(body: &[u8]) -> Question
     }
 }
 
-// A record, from its kind and the bytes after the kind's byte.
+// A record, from its kind and the bytes after the kind's byte. Inlined, as the walks over records are: a record handed over in memory is read back in other pieces
+// than it was written in, which the processor waits for (docs/PERFORMANCE.md).
+#[inline(always)]
 fn record_of(kind: Kind, body: &[u8]) -> Record
     requires { body_length kind ≤ length body.now }
     ensures { result ≡ record_of kind body.now }

@@ -34,6 +34,7 @@ impl<'a> Iterator for Records<'a> {
     ghost remaining = { item_count records_left };
 
     #[tactic(auto, using(crate::proofs::Scan::known_here, crate::proofs::Scan::whole_here, crate::proofs::Scan::faultless_later, crate::proofs::Scan::records_here), unfolding(crate::specs::Records::records_after))]
+    #[inline(always)]
     fn next(&mut self) -> Option<Record> {
         let (first, after) = self.rest.split_first()?;
         let kind = Kind::try_from(*first).unwrap();

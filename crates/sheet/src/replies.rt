@@ -35,6 +35,7 @@ impl<'a> Iterator for Replies<'a> {
     ghost remaining = { item_count replies_left };
 
     #[tactic(auto, unfolding(crate::specs::inner::Replies::replies_from))]
+    #[inline(always)]
     fn next(&mut self) -> Option<Option<Result<Verdict, Refusal>>> {
         let record = self.records.next()?;
         let (state, reply) = self.state.answer(record);
