@@ -1,13 +1,14 @@
 -- The places of a walk over a flight: where a stretch begins, and a second later. Assumes nothing.
-use mathlib.Core.Path.{◌≡◌, sym, ap, ◌∙◌, subst}
+use mathlib.Core.Path.{◌≡◌, refl, sym, ap, ◌∙◌, subst}
 use mathlib.Core.Bool.{true, ◌&&◌}
 use mathlib.Core.List.{List, [], ◌∷◌}
-use Prim.Native.Nat.{ℕ, suc, ◌+◌, ◌-◌, ◌<◌}
+use Prim.Native.Nat.{ℕ, suc, ◌+◌, ◌-◌, ◌<◌, ◌≤◌}
 use native.Mathlib.Omega.{arith}
 use lib.Dec.{T}
 use lib.Ieee.Fits.{and_l, and_r}
 use lib.IntN.{ℤ, pos}
 use Rattle.std.proofs.Flags.{T_true}
+use Rattle.limits.specs.Limits.{max_flight_seconds}
 use Rattle.advisory.specs.declared.Sense.{Sense}
 use Rattle.path.specs.declared.SensedQuestion.{SensedQuestion}
 use Rattle.path.specs.Letters.{u}
@@ -18,7 +19,9 @@ use Rattle.flight.specs.HandedIn.{flight_of, numbers_within}
 use Rattle.flight.specs.SensedFlight.{sensed_stretch, sensed_flight}
 use Rattle.flight.proofs.FlightSizes.{stretch_sizes}
 use Rattle.flight.proofs.Walk.{first_speed, first_height, next_speed, next_height}
+use Rattle.stretches.specs.declared.Stretches.{Stretches}
 use Rattle.second.specs.declared.Motion.{Motion}
+use Rattle.second.specs.inner.SecondSizes.{MotionSizes}
 use Rattle.flown.specs.declared.Place.{Place}
 use Rattle.flown.specs.inner.Places.{flown, motion_at, motion_after, LeftAt, BeginsAt, PlaceAt}
 use Rattle.flown.proofs.LeftAt.{stretch, all_left, stretch_over, at_end, force_at_end, force_now, a_second_less}
@@ -29,6 +32,10 @@ moving y v g = record { height = y; speed = v; acceleration = g }
 
 pub same_motion : {y y' v v' g g' : ℤ} → y ≡ y' → v ≡ v' → g ≡ g' → moving y v g ≡ moving y' v' g'
 same_motion e f h = cc
+
+-- the place at the second n, with the motion there, `left` seconds before the end of its stretch
+abbrev pub placed : (n : ℕ) (motion : Motion) → n ≤ max_flight_seconds → MotionSizes motion → ℕ → Stretches → Place
+placed n motion e z left later = record { second = record { n = n; motion = motion; early = e; sizes = z }; left = left; later = later }
 
 module _ (s : SensedQuestion) (w : Sense) (l : List ℤ) where
   -- ---- at the start
@@ -92,6 +99,16 @@ module _ (s : SensedQuestion) (w : Sense) (l : List ℤ) where
     motion = is;
   }
 
+  -- ---- the next of the stretches before, in the sense, and those after it; at the flight's end nothing of a stretch, and none
+  abbrev pub NextIs : List Stretch → Stretch → List Stretch → Type 0
+  NextIs [] x later = (x ≡ stretch (pos 0) 0) × (later ≡ [])
+  NextIs (y ∷ r) x later = (x ≡ sensed_stretch w y) × (r ≡ later)
+
+  begun_next : {n : ℕ} {motion : Motion} {before later : List ℤ} {x : Stretch} → BeginsAt s w l n motion before
+      → (r : List Stretch) → flight_of before ≡ r → NextIs r x (flight_of later) → Begun n later x
+  begun_next {n} {motion} {before} {later} h [] e i = subst (Begun n later) (sym i.0) (none_begun h e i.1)
+  begun_next h (y ∷ r) e i = next_begun h (e ∙ ap (λ (k : List Stretch). y ∷ k) i.1) i.0
+
   -- ---- a second later, with the motion m
   module _ {place : Place} (at : PlaceAt s w l place) (more : 0 < place.left) {m : Motion} (is : m ≡ motion_after place.second.motion) where
     abbrev n : ℕ
@@ -131,3 +148,21 @@ module _ (s : SensedQuestion) (w : Sense) (l : List ℤ) where
       height = next_height_is;
       speed = next_speed_is;
     }
+
+    -- the place then: within the stretch
+    pub next_within : {e : place.second.n + 1 ≤ max_flight_seconds} {z : MotionSizes m} → 0 < place.left - 1 → PlaceAt s w l (placed (place.second.n + 1) m e z (place.left - 1) place.later)
+    next_within still = record {
+      left = next_left;
+      going = λ none. absurd (omega arith);
+      within = at.within;
+      motion = next_motion still;
+    }
+
+    -- and after its last second, with the acceleration and the seconds of the next
+    pub next_stretch : {x : Stretch} {later : Stretches} {e : place.second.n + 1 ≤ max_flight_seconds} {z : MotionSizes (moving m.height m.speed x.acceleration)}
+        → place.left - 1 ≡ 0 → NextIs (flight_of place.later.0.now) x (flight_of later.0.now)
+        → PlaceAt s w l (placed (place.second.n + 1) (moving m.height m.speed x.acceleration) e z x.seconds later)
+    next_stretch {x} {later} last i =
+        let h = next_begins (omega arith) in
+        let b : Begun (place.second.n + 1) later.0.now x = begun_next h (flight_of place.later.0.now) refl i in
+        begun_place b refl (begun_motion h b refl refl refl)

@@ -1,6 +1,6 @@
 -- `Flight::after` meets its contract: a second later the flight is within the stretch, or the next one begins.
 use Rattle.std.proofs.Common.{refl, ◌<◌, ◌-◌, arith}
-use Rattle.flown.proofs.NextPlace.{next_left, next_motion, next_begins}
+use Rattle.flown.proofs.NextPlace.{next_left, next_motion, next_begins, next_within}
 use Rattle.flown.proofs.WithinLimits.{early, motion_sizes}
 use Rattle.flown.proofs.Flight.after.Goals as goal
 
@@ -20,12 +20,5 @@ invariant_of-result c =
 pub returns : goal.returns
 returns c =
     let f = c.args.self in
-    let still : 0 < c.args.place.left - 1 = omega arith in (
-      refl,
-      record {
-        left = next_left f.question.sensed f.sense f.numbers.now c.requires.at c.requires.going c.motion_after-motion.ensures;
-        going = λ none. absurd (omega arith);
-        within = c.requires.at.within;
-        motion = next_motion f.question.sensed f.sense f.numbers.now c.requires.at c.requires.going c.motion_after-motion.ensures still;
-      },
-    )
+    let still : 0 < c.args.place.left - 1 = omega arith in
+    (refl, next_within f.question.sensed f.sense f.numbers.now c.requires.at c.requires.going c.motion_after-motion.ensures still)
