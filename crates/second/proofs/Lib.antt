@@ -1,3 +1,4 @@
 pub mod Fields
 pub mod Clamping
+pub mod NearSeconds
 pub mod ClampedEdges
