@@ -108,12 +108,13 @@ impl<'a> Flight<'a> {
     {
         let n = place.second.n + 1;
         let motion = motion_after(place.second);
-        if place.left == 1 {
+        let left = place.left - 1;
+        if left == 0 {
             return self.begin(n, motion, place.later);
         }
         Place {
             second: Second { n, motion },
-            left: place.left - 1,
+            left,
             ..place
         }
     }

@@ -7,7 +7,7 @@ use Rattle.flown.proofs.Flight.after.Goals as goal
 pub begin-requires : goal.begin-requires
 begin-requires c =
     let f = c.args.self in
-    next_begins f.question.sensed f.sense f.numbers.now c.requires.at c.requires.going c.motion_after-motion.ensures c.if-place-eq1.true
+    next_begins f.question.sensed f.sense f.numbers.now c.requires.at c.requires.going c.motion_after-motion.ensures (omega (arith, c.requires.going, c.if-left-eq0.true))
 
 pub invariant_of-result : goal.invariant_of-result
 invariant_of-result c =
