@@ -162,6 +162,7 @@ fn record_of(kind: Kind, body: &[u8]) -> Record
 
 // The record whose kind's byte stands at a position, if the kind is known. By positions, for whoever tells where a record stands, in a sheet with a fault too;
 // `Records` walks a sheet without one and tells no places.
+#[inline(always)]
 pub fn record_at(sheet: &[u8], at: usize) -> Option<Record>
     requires { (at < length sheet.now) × (at + 1 + body_after (kind_of (byte_at sheet.now at)) ≤ length sheet.now) }
     ensures { result ≡ option_map (λ kind. record_of kind (drop (at + 1) sheet.now)) (kind_of (byte_at sheet.now at)) }
