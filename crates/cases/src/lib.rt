@@ -23,8 +23,8 @@ use std::rt::{Env, Files};
 
 const LINE_END: u8 = 10;
 
-// A case's numbers, of eight bytes each. By places: `map` compiles to seventeen instructions a number, and the programs took half as long again; of what `iter_mut` lends to
-// a `zip` nothing is known afterwards.
+// A case's numbers, of eight bytes each. By places: `map` compiles to seventeen instructions a number, which cost `vectors` 58 % and `drawings` 30 % a file; of what
+// `iter_mut` lends to a `zip` nothing is known afterwards.
 pub fn numbers_in<const N: usize>(case: &[[u8; 8]; N]) -> [u64; N]
     ensures { result ≡ map (from_be_bytes w64) case.now }
 {

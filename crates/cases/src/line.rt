@@ -10,7 +10,7 @@ use std::{fmt, io};
 // A report of twelve numbers of twenty digits fits.
 const LINE_ROOM: usize = 512;
 
-// A line of text, as far as its room goes, as there is no heap: what displays writes it in pieces, and each would be a call of the system.
+// A line of text, gathered so that it is written by one call of the system: a value is displayed in pieces. Its room is fixed, as there is no heap.
 #[derive(Drop)]
 struct Line {
     room: [u8; LINE_ROOM],
@@ -46,6 +46,7 @@ fn line_of<T: Display>(value: &T) -> Option<Line>
     }
 }
 
+// Writes that line at once; one that doesn't fit the room goes in pieces, as it is displayed.
 pub(crate) fn write_line<O: Write, T: Display>(output: &mut O, value: &T) -> io::Result<()>
     ensures { OnOk result (IfSome (T.output value.now) (λ text. Appends (O.contents output.old) (O.contents output.new) (text ++ 10 ∷ []))) }
 {

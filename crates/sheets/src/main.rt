@@ -16,7 +16,7 @@ fn print_bytes(out: &impl Print, bytes: &[u8]) -> io::Result<()> {
     Ok(())
 }
 
-// (As `lifgorund` does, and for its reason without `program::answer_read`.)
+// (Without `program::answer_read`, for the reason that `lifgorund` gives.)
 fn answer_file<P: Print, R: Read>(out: &P, file: &mut R) -> io::Result<()> {
     let mut room = read_room();
     let sheet = read_part(file, &mut room)?;
