@@ -23,6 +23,7 @@ use Rattle.record.specs.Records.{records}
 use Rattle.program.proofs.ReadEnough.{too_long}
 use Rattle.record.specs.SheetCheck.{longest_sheet}
 use Rattle.reply.specs.AnswerBytes.{reply_bytes}
+use Rattle.reply.proofs.RefusalsNumbered.{answer_bytes}
 use Rattle.answering.specs.declared.State.{State}
 use Rattle.answering.specs.States as states
 use Rattle.answering.specs.States.{starting_state, with_puck, with_delay_acceleration, state_after, state_after_all}
@@ -55,6 +56,7 @@ module _ (sheet : List ℕ) (earlier : List Record) (given : Record) (later : Li
   placed r e =
       each_record sheet earlier given later here
       ∙ ap (λ (reply : Option (Result Verdict Refusal)). answers_from starting_state earlier ++ (reply_bytes reply ++ answers_from (state_after st given) later)) e
+      ∙ ap (λ (bytes : List ℕ). answers_from starting_state earlier ++ (bytes ++ answers_from (state_after st given) later)) (answer_bytes r)
 
   settings_refused : (within : Bool) (why : Refusal) → within ≡ false → settings_reply within why ≡ Some (Err why)
   settings_refused within why e = ap (λ (b : Bool). settings_reply b why) e

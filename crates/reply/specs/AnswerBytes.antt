@@ -1,7 +1,8 @@
 -- "Answer records: kind 65 clear, body 1 byte (1 lower side clear, 2 upper, 3 both; one-sided always 1); kind 66 one-sided conflict, whole seconds, remainder,
 -- divisor, 4 unsigned bytes each; kind 67 two such times, lower first; kind 68 one byte, the refusal number." (Kinds and values: judge, specs/Answers.antt.)
-use Rattle.std.specs.Prelude.{cond, ◌||◌, List, [], ◌∷◌, ◌++◌, ℕ, ◌/◌, ◌%◌, eqb, None, Option, Result, Some}
-use Rattle.judge.specs.Answers.{AnswerRecord, answer_record}
+use Rattle.std.specs.Prelude.{cond, ◌||◌, List, [], ◌∷◌, ◌++◌, ℕ, ◌/◌, ◌%◌, eqb, Err, None, Ok, Option, Result, Some}
+use Rattle.judge.specs.Answers.{AnswerRecord, answers, answer_record}
+use Rattle.question.specs.RefusalNumbers.{refusal_number}
 use Rattle.question.specs.declared.refusal.Refusal.{Refusal}
 use Rattle.verdict.specs.declared.Verdict.{Verdict}
 
@@ -22,7 +23,16 @@ body_bytes kind (value ∷ rest) = value_bytes kind value ++ body_bytes kind res
 abbrev pub record_bytes : AnswerRecord → List ℕ
 record_bytes r = r.kind ∷ body_bytes r.kind r.values
 
+-- an answer's record: a verdict's, or kind 68 with the refusal's number
+abbrev pub numbered_record : {R : Type 0} → (R → ℕ) → Result Verdict R → AnswerRecord
+numbered_record number (Ok verdict) = answer_record (Ok verdict)
+numbered_record number (Err why) = answers 68 (number why ∷ [])
+
 -- a reply's answer record, if it has one
+abbrev pub numbered_bytes : {R : Type 0} → (R → ℕ) → Option (Result Verdict R) → List ℕ
+numbered_bytes number None = []
+numbered_bytes number (Some answer) = record_bytes (numbered_record number answer)
+
+-- the same, by the refusals' own numbers
 abbrev pub reply_bytes : Option (Result Verdict Refusal) → List ℕ
-reply_bytes None = []
-reply_bytes (Some answer) = record_bytes (answer_record answer)
+reply_bytes = numbered_bytes refusal_number

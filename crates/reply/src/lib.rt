@@ -1,10 +1,11 @@
 // The bytes of an answer record, and writing them into an area. `specs/` says what the bytes are.
 #![tactic(auto)]
 
-ghost use Rattle.std.specs.Prelude.{◌≡◌, ◌≤◌, [], ◌∷◌, length};
+ghost use Rattle.std.specs.Prelude.{◌≡◌, ◌≤◌, ℕ, length};
 ghost use Rattle.std.proofs.lemmas.List.Edits.{sets};
-ghost use Rattle.judge.specs.Answers.{answers, time_numbers};
-ghost use Rattle.reply.specs.AnswerBytes.{big_endian, body_bytes, record_bytes, reply_bytes};
+ghost use Rattle.judge.specs.Answers.{time_numbers};
+ghost use Rattle.question.specs.RefusalNumbers.{refusal_number};
+ghost use Rattle.reply.specs.AnswerBytes.{big_endian, body_bytes, numbered_bytes};
 
 use instant::Time;
 use judge::sides_number;
@@ -20,9 +21,33 @@ const CONFLICTS: u8 = 67;
 
 const REFUSED: u8 = 68;
 
+// What an answer is refused with: a refusal, or any number.
+pub trait Numbered: Copy {
+    ghost number: { Self → ℕ };
+
+    fn number(self) -> u8
+        ensures { result ≡ number self };
+}
+
+impl Numbered for Refusal {
+    ghost number = { refusal_number };
+
+    fn number(self) -> u8 {
+        Refusal::number(self)
+    }
+}
+
+impl Numbered for u8 {
+    ghost number = { λ n. n };
+
+    fn number(self) -> u8 {
+        self
+    }
+}
+
 // How many bytes a record's reply has: none, or an answer record's.
-pub fn reply_length(reply: Option<Result<Verdict, Refusal>>) -> usize
-    ensures { result ≡ length (reply_bytes reply) }
+pub fn reply_length<R: Numbered>(reply: Option<Result<Verdict, R>>) -> usize
+    ensures { result ≡ length (numbered_bytes R.number reply) }
 {
     match reply {
         None => 0,
@@ -51,18 +76,9 @@ fn write_time(area: &mut [u8], time: Time)
     write_number(&mut area[8..], time.divisor);
 }
 
-// A refusal's record, of any number, not of those of `Refusal` alone.
-pub fn write_refusal(area: &mut [u8], number: u8)
-    requires { 2 ≤ length area.old }
-    ensures { area.new ≡ sets area.old 0 (record_bytes (answers 68 (number ∷ []))) }
-{
-    area[0] = REFUSED;
-    area[1] = number;
-}
-
-fn write_answer(area: &mut [u8], answer: Result<Verdict, Refusal>)
-    requires { length (reply_bytes (Some answer)) ≤ length area.old }
-    ensures { area.new ≡ sets area.old 0 (reply_bytes (Some answer)) }
+fn write_answer<R: Numbered>(area: &mut [u8], answer: Result<Verdict, R>)
+    requires { length (numbered_bytes R.number (Some answer)) ≤ length area.old }
+    ensures { area.new ≡ sets area.old 0 (numbered_bytes R.number (Some answer)) }
 {
     match answer {
         Ok(Verdict::Clear(sides)) => {
@@ -78,14 +94,17 @@ fn write_answer(area: &mut [u8], answer: Result<Verdict, Refusal>)
             write_time(&mut area[1..], lower);
             write_time(&mut area[13..], upper);
         }
-        Err(why) => write_refusal(area, why.number()),
+        Err(why) => {
+            area[0] = REFUSED;
+            area[1] = why.number();
+        }
     }
 }
 
 // What a record is answered, if anything, from the area's start on.
-pub fn write_reply(area: &mut [u8], reply: Option<Result<Verdict, Refusal>>)
-    requires { length (reply_bytes reply) ≤ length area.old }
-    ensures { area.new ≡ sets area.old 0 (reply_bytes reply) }
+pub fn write_reply<R: Numbered>(area: &mut [u8], reply: Option<Result<Verdict, R>>)
+    requires { length (numbered_bytes R.number reply) ≤ length area.old }
+    ensures { area.new ≡ sets area.old 0 (numbered_bytes R.number reply) }
 {
     if let Some(answer) = reply {
         write_answer(area, answer);
