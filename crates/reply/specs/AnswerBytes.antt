@@ -1,5 +1,5 @@
 -- "Answer records: kind 65 clear, body 1 byte (1 lower side clear, 2 upper, 3 both; one-sided always 1); kind 66 one-sided conflict, whole seconds, remainder,
--- divisor, 4 unsigned bytes each; kind 67 two such times, lower first; kind 68 one byte, the refusal number." (Kinds and values: judge, specs/Answers.antt.)
+-- divisor, 4 unsigned bytes each; kind 67 two such times, lower first; kind 68 one byte, the refusal number." (A verdict's kinds and values: judge, specs/Answers.antt.)
 use Rattle.std.specs.Prelude.{cond, ◌||◌, List, [], ◌∷◌, ◌++◌, ℕ, ◌/◌, ◌%◌, eqb, Err, None, Ok, Option, Result, Some}
 use Rattle.judge.specs.Answers.{AnswerRecord, answers, answer_record}
 use Rattle.question.specs.RefusalNumbers.{refusal_number}
@@ -33,6 +33,6 @@ abbrev pub numbered_bytes : {R : Type 0} → (R → ℕ) → Option (Result Verd
 numbered_bytes number None = []
 numbered_bytes number (Some answer) = record_bytes (numbered_record number answer)
 
--- the same, by the refusals' own numbers
+-- the same, by the refusals' own numbers: `answer_record`'s bytes (`answer_bytes`)
 abbrev pub reply_bytes : Option (Result Verdict Refusal) → List ℕ
 reply_bytes = numbered_bytes refusal_number
