@@ -184,3 +184,83 @@ pub fn report_arguments<R: Files + Env, O: Write, T: Display + Drop, F: Fn(&[u8]
     }
     Ok(())
 }
+
+#[cfg(test)]
+mod tests {
+    use super::*;
+    use std::cell::Cell;
+    use std::{fmt, str};
+
+    // A report longer than a line's room, of pieces of so many bytes, that can be displayed once.
+    #[derive(Drop)]
+    struct Once {
+        text: [u8; 600],
+        piece: usize,
+        is_shown: Cell<bool>,
+    }
+
+    impl Display for Once {
+        fn fmt<W: fmt::Write>(&self, f: &mut fmt::Formatter<W>) -> fmt::Result {
+            if self.is_shown.replace(true) {
+                return Err(fmt::Error);
+            }
+            for piece in self.text.chunks(self.piece.max(1)) {
+                match str::from_utf8(piece) {
+                    Ok(piece) => f.write_str(piece)?,
+                    Err(_) => return Err(fmt::Error),
+                }
+            }
+            Ok(())
+        }
+    }
+
+    // A report that fails after three bytes.
+    #[derive(Drop)]
+    struct Failing {}
+
+    impl Display for Failing {
+        fn fmt<W: fmt::Write>(&self, f: &mut fmt::Formatter<W>) -> fmt::Result {
+            f.write_str("abc")?;
+            Err(fmt::Error)
+        }
+    }
+
+    #[test]
+    fn failed_report_is_written_so_far(rt: HostRuntime) {
+        let mut room = [0u8; 16];
+        let mut area = [0u8; 20];
+        let mut output = area.as_mut_slice();
+        let mut file: &[u8] = b"line\ncases";
+        let report = |_cases: &[u8]| Failing {};
+        assert!(rt; report_file(&mut file, &mut output, b"name", &mut room, &report).is_err());
+        assert_eq!(rt; output.len(), 6);
+        assert!(rt; &area[..14] == b"name: line\nabc".as_slice());
+    }
+
+    #[test]
+    fn long_report_is_displayed_once(rt: HostRuntime) {
+        for piece in [1, 7, 511, 512, 513, 600] {
+            let mut room = [0u8; 16];
+            let mut area = [0u8; 700];
+            let mut output = area.as_mut_slice();
+            let mut file: &[u8] = b"line\ncases";
+            let report = |cases: &[u8]| Once {
+                text: [cases.first().copied().unwrap_or(0); 600],
+                piece,
+                is_shown: Cell::new(false),
+            };
+            let written = report_file(&mut file, &mut output, b"name", &mut room, &report);
+            assert!(rt; written.is_ok(), "pieces of {piece}");
+            assert_eq!(rt; output.len(), 88, "pieces of {piece}");
+            assert!(rt;
+                &area[..11] == b"name: line\n".as_slice(),
+                "pieces of {piece}"
+            );
+            assert!(rt;
+                area[11..611].iter().all(|byte| *byte == b'c'),
+                "pieces of {piece}"
+            );
+            assert!(rt; area[611] == LINE_END, "pieces of {piece}");
+        }
+    }
+}
